@@ -1,0 +1,30 @@
+-- The id of a cookie and the order of ids. The 6265bis draft, section 5.7 (storage model), whose name, domain,
+-- host-only flag and path make up the identity of a cookie.
+use Rattle.std.specs.Prelude.{ℕ, List, Bool, ◌≡◌}
+use Rattle.std.specs.Ordering.{nat_cmp, ordering_then, is_eq}
+use Rattle.std.specs.Cmp.Lexicographic.{slice_cmp}
+use Rattle.std.specs.List.Sorted.{IsStrictlySortedBy}
+use Rattle.std.specs.declared.cmp.Ordering.{Ordering}
+use Rattle.jar_types.specs.declared.cookie.Cookie.{Cookie}
+use Rattle.jar_types.specs.declared.cookie.CookieId.{CookieId}
+
+-- texts are ordered by their bytes
+abbrev pub text_cmp : List ℕ → List ℕ → Ordering
+text_cmp = slice_cmp nat_cmp
+
+-- the id of a cookie
+abbrev pub id_of : Cookie → CookieId
+id_of c = record { host = c.host; name = c.name; path = c.path }
+
+-- ids are ordered by host, then name, then path
+abbrev pub id_cmp : Cookie → Cookie → Ordering
+id_cmp c d =
+    ordering_then (text_cmp c.host d.host) (ordering_then (text_cmp c.name d.name) (text_cmp c.path d.path))
+
+-- both cookies have one id
+abbrev pub same_id : Cookie → Cookie → Bool
+same_id c d = is_eq (id_cmp c d)
+
+-- the ids rise strictly, so no two are the same
+abbrev pub RisesById : List Cookie → Type 0
+RisesById cookies = IsStrictlySortedBy id_cmp cookies

@@ -1,0 +1,13 @@
+pub mod Ids
+pub mod Hosts
+pub mod Paths
+pub mod Matches
+pub mod Orders
+pub mod Answers
+pub mod Purges
+pub mod Entries
+pub mod States
+pub mod Sets
+pub mod Gets
+pub mod Steps
+pub mod Journals

@@ -1,0 +1,14 @@
+-- Lists put in an order.
+use Rattle.std.specs.Prelude.{List, [], ◌∷◌, if◌then◌else◌}
+use Rattle.std.specs.Ordering.{is_lt}
+use Rattle.std.specs.declared.cmp.Ordering.{Ordering}
+
+-- the list with x before the first element that it comes before
+abbrev pub placed : {X : Type 0} → (X → X → Ordering) → X → List X → List X
+placed cmp x [] = x ∷ []
+placed cmp x (y ∷ ys) = if is_lt (cmp x y) then x ∷ (y ∷ ys) else y ∷ placed cmp x ys
+
+-- the list in the order of cmp
+abbrev pub in_order : {X : Type 0} → (X → X → Ordering) → List X → List X
+in_order cmp [] = []
+in_order cmp (x ∷ xs) = placed cmp x (in_order cmp xs)

@@ -1,0 +1,21 @@
+-- Which cookies have expired, and a key without them. RFC 6265, section 5.3 (expiry); that a key is purged before each
+-- use is this jar's own rule.
+use Rattle.std.specs.Prelude.{ℕ, List, Bool, true, false, not, ◌&&◌, nat_le, bytes_eq, filter, Option, None, Some}
+use Rattle.jar_types.specs.declared.cookie.Cookie.{Cookie}
+
+-- an expiry has come
+abbrev pub has_come : Option ℕ → ℕ → Bool
+has_come None now = false
+has_come (Some expiry) now = nat_le expiry now
+
+-- the cookie has expired
+abbrev pub is_expired : ℕ → Cookie → Bool
+is_expired now c = has_come c.expiry now
+
+-- the cookie is kept under this key
+abbrev pub has_key : List ℕ → Cookie → Bool
+has_key key c = bytes_eq c.key key
+
+-- the cookies without those of the key that have expired
+abbrev pub purged : List ℕ → ℕ → List Cookie → List Cookie
+purged key now cookies = filter (λ c. not (has_key key c && is_expired now c)) cookies

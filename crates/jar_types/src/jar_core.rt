@@ -1,0 +1,82 @@
+//! What a core of the jar does: it holds the content, prepares entries and settles them.
+
+ghost use Rattle.std.specs.Prelude.{◌≡◌, ◌<◌, ◌-◌, ◌^◌, [], true, IfOk, IsOkUnless};
+ghost use Rattle.jar_types.specs.States.{opening};
+ghost use Rattle.jar_types.specs.Steps.{after, entry_of, event_of, may_come};
+ghost use Rattle.jar_types.specs.declared.jar_core.CoreRefusal.TheVariants.{NoMemory as WantOfMemory};
+
+use crate::entry::{Entry, Event};
+use crate::memory::NoMemory;
+use crate::texts::Texts;
+use std::alloc::Global;
+use std::error::Error;
+use std::fmt;
+
+/// An entry that a core has made ready.
+#[derive(Drop)]
+pub struct Prepared {
+    pub entry: Entry,
+}
+
+/// Why a core prepares no entry.
+#[derive(Clone, Copy, Debug, PartialEq, Eq)]
+pub enum CoreRefusal {
+    /// Memory was wanting.
+    NoMemory,
+}
+
+impl fmt::Display for CoreRefusal {
+    fn fmt<W: fmt::Write>(&self, f: &mut fmt::Formatter<W>) -> fmt::Result {
+        match self {
+            CoreRefusal::NoMemory => write!(f, "out of memory"),
+        }
+    }
+}
+
+impl Error for CoreRefusal {}
+
+impl From<NoMemory> for CoreRefusal {
+    ghost from_gives = { λ _ refusal. refusal ≡ WantOfMemory };
+
+    fn from(_error: NoMemory) -> CoreRefusal {
+        CoreRefusal::NoMemory
+    }
+}
+
+/// The content of the jar, seen as the state of the jar of one thread.
+///
+/// This jar's own rule: docs/DEFINITIONS.md.
+pub trait JarCore {
+    ghost use Rattle.jar_types.specs.States.{JarState};
+    ghost use Rattle.jar_types.specs.declared.jar_core.Prepared.{Prepared as PreparedData};
+
+    /// The content.
+    ghost state: { Self → JarState };
+
+    /// Whether an entry was made ready at this content.
+    ghost ready: { Self → PreparedData → Type 0 };
+
+    /// An empty jar, in which every key but these is loaded.
+    fn fresh(alloc: Global, keys: Texts) -> Result<Self, NoMemory>
+        requires { keys ≡ [] }
+        ensures { IfOk result (λ core. state core ≡ opening) };
+
+    /// The entry of an event. The content stays, and the core is ready for the entry until its next call by `&mut`.
+    ///
+    /// Only want of memory refuses.
+    fn prepare(&mut self, alloc: Global, event: &Event) -> Result<Prepared, CoreRefusal>
+        requires room { (state self.old).entries < 2 ^ 64 - 1 }
+        requires stands { may_come (state self.old) event.now ≡ true }
+
+        // The entry is the one that the event makes.
+        ensures entry { IfOk result (λ p. p.entry ≡ entry_of (state self.old) event.now) }
+        ensures ready { IfOk result (λ p. ready self.new p) }
+
+        ensures same { state self.new ≡ state self.old };
+
+    /// The content takes the step of a prepared entry, which is handed back. It takes no memory.
+    fn settle(&mut self, prepared: Prepared) -> Entry
+        requires { ready self.old prepared }
+        ensures step { state self.new ≡ after (state self.old) (event_of prepared.entry) }
+        ensures entry { result ≡ prepared.entry };
+}

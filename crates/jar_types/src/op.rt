@@ -1,0 +1,66 @@
+//! What callers ask of the jar, and what it replies.
+
+ghost use Rattle.std.specs.Prelude.{◌≡◌, IfOk};
+
+use crate::cookie::Cookie;
+use crate::cookies::Cookies;
+use crate::memory::NoMemory;
+use crate::request::Request;
+use std::alloc::Global;
+
+/// What a caller asks.
+///
+/// `Set` stores a cookie: `script` says whether a script does and not HTTP, `secure` whether the connection is.
+/// `Get` asks for the cookies of a request.
+#[derive(Drop)]
+pub enum Op {
+    Set {
+        cookie: Cookie,
+        script: bool,
+        secure: bool,
+    },
+    Get(Request),
+}
+
+/// What the jar replies.
+///
+/// `Stored` and `Replaced` answer a Set, of a new id and of one that was there. `Cookies` answers a Get.
+#[derive(Drop)]
+pub enum Reply {
+    Stored,
+    Replaced,
+    Cookies(Cookies),
+}
+
+impl Op {
+    /// The same op again.
+    pub fn copy(&self, alloc: Global) -> Result<Op, NoMemory>
+        ensures { IfOk result (λ op. op ≡ self.now) }
+    {
+        match self {
+            Op::Set {
+                cookie,
+                script,
+                secure,
+            } => Ok(Op::Set {
+                cookie: cookie.copy(alloc)?,
+                script: *script,
+                secure: *secure,
+            }),
+            Op::Get(request) => Ok(Op::Get(request.copy(alloc)?)),
+        }
+    }
+}
+
+impl Reply {
+    /// The same reply again.
+    pub fn copy(&self, alloc: Global) -> Result<Reply, NoMemory>
+        ensures { IfOk result (λ reply. reply ≡ self.now) }
+    {
+        match self {
+            Reply::Stored => Ok(Reply::Stored),
+            Reply::Replaced => Ok(Reply::Replaced),
+            Reply::Cookies(cookies) => Ok(Reply::Cookies(cookies.copy(alloc)?)),
+        }
+    }
+}
