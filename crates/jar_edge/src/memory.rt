@@ -1,0 +1,25 @@
+//! Want of memory.
+
+use std::alloc::AllocError;
+use std::error::Error;
+use std::fmt;
+
+/// Memory was wanting.
+///
+/// It is the one answer that no contract ties to a cause.
+#[derive(Clone, Copy, Debug, PartialEq, Eq)]
+pub struct NoMemory;
+
+impl fmt::Display for NoMemory {
+    fn fmt<W: fmt::Write>(&self, f: &mut fmt::Formatter<W>) -> fmt::Result {
+        write!(f, "out of memory")
+    }
+}
+
+impl Error for NoMemory {}
+
+impl From<AllocError> for NoMemory {
+    fn from(_error: AllocError) -> NoMemory {
+        NoMemory
+    }
+}
