@@ -1,0 +1,4 @@
+mod BoundaryLemmas
+mod MaxAgeLemmas
+mod KeptLemmas
+mod StandardFacts
