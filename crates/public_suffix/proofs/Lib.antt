@@ -1,0 +1,5 @@
+pub mod LabelLemmas
+pub mod SuffixLemmas
+pub mod ListLemmas
+pub mod AddressLemmas
+mod StandardFacts
