@@ -1,0 +1,8 @@
+pub mod Schemes
+pub mod Places
+pub mod DefaultPaths
+pub mod Contexts
+pub use Rattle.jar_types.specs.Hosts
+pub use Rattle.jar_types.specs.Paths
+pub use Rattle.jar_types.specs.Matches
+pub use Rattle.public_suffix.specs.Suffix
