@@ -1,0 +1,139 @@
+//! Cookies in the order of their ids.
+
+ghost use Rattle.std.specs.Prelude.{◌≡◌, ◌++◌, ◌∷◌, [], IfOk, map, option_copied, find};
+ghost use Rattle.jar_types.specs.Gets as gets;
+ghost use Rattle.jar_types.specs.Ids.{RisesById, same_id};
+ghost use Rattle.jar_types.specs.Purges as purges;
+ghost use Rattle.jar_types.specs.Sets as sets;
+
+use crate::access::serve_all;
+use crate::expiry::is_expired;
+use crate::order::id_cmp;
+use jar_types::{Cookie, Cookies, Moment, NoMemory, Request, Text};
+use std::alloc::Global;
+use std::marker::Model;
+
+/// Cookies whose ids rise, seen as their list.
+#[derive(Drop)]
+pub struct ById {
+    cookies: Cookies,
+}
+
+impl Model for ById {
+    ghost use Rattle.std.specs.Prelude.{List};
+    ghost use Rattle.jar_types.specs.declared.cookie.Cookie.{Cookie};
+    ghost use Rattle.jar_types.specs.Ids.{RisesById};
+
+    ghost Value = { List Cookie };
+
+    ghost view = { λ b. b.cookies };
+
+    ghost invariant = { λ b. RisesById b.cookies };
+}
+
+impl ById {
+    /// No cookie.
+    pub fn new(alloc: Global) -> ById
+        ensures { result ≡ [] }
+    {
+        ById {
+            cookies: Cookies::new(alloc),
+        }
+    }
+
+    /// All of them.
+    pub fn as_slice(&self) -> &[Cookie]
+        ensures value { result.now ≡ self.now }
+        ensures rises { RisesById self.now }
+    {
+        self.cookies.as_slice()
+    }
+
+    /// The same cookies again.
+    pub fn copy(&self, alloc: Global) -> Result<ById, NoMemory>
+        ensures { IfOk result (λ cookies. cookies ≡ self.now) }
+    {
+        Ok(ById {
+            cookies: self.cookies.copy(alloc)?,
+        })
+    }
+
+    /// The cookies without those of a key that have expired.
+    pub fn purged(self, key: &Text, now: Moment) -> ById
+        ensures { result ≡ purges.purged key.now now self }
+    {
+        let mut left = self.cookies.into_vec();
+        purge(&mut left, key, now);
+        ById {
+            cookies: Cookies::from_vec(left),
+        }
+    }
+
+    /// The one with the id of a cookie.
+    pub fn old_of(&self, cookie: &Cookie) -> Option<&Cookie>
+        ensures { option_copied result ≡ sets.old_of cookie.now self.now }
+    {
+        self.cookies
+            .as_slice()
+            .iter()
+            .find(|other| id_cmp(cookie, other).is_eq())
+    }
+
+    /// The cookies with this one in the place of its id.
+    pub fn with(self, alloc: Global, cookie: Cookie) -> Result<ById, NoMemory>
+        ensures { IfOk result (λ cookies. cookies ≡ sets.with_cookie cookie self) }
+    {
+        let cookies = set_among(alloc, self.cookies.into_vec(), cookie)?;
+        Ok(ById {
+            cookies: Cookies::from_vec(cookies),
+        })
+    }
+
+    /// The cookies, with the access of those that a request gets refreshed.
+    pub fn served(self, request: &Request, now: Moment) -> ById
+        ensures { result ≡ map (gets.served request.now now) self }
+    {
+        let mut cookies = self.cookies.into_vec();
+        serve_all(cookies.as_mut_slice(), request, now);
+        ById {
+            cookies: Cookies::from_vec(cookies),
+        }
+    }
+}
+
+/// Takes out the cookies of a key that have expired.
+fn purge(cookies: &mut Vec<Cookie>, key: &Text, now: Moment)
+    ensures { cookies.new.items ≡ purges.purged key.now now cookies.old.items }
+{
+    cookies.retain(|cookie| !(cookie.key == *key && is_expired(cookie, now)));
+}
+
+/// The cookies of lesser ids, then this cookie, then those of greater ids.
+fn set_among(alloc: Global, cookies: Vec<Cookie>, cookie: Cookie) -> Result<Vec<Cookie>, NoMemory>
+    ensures { IfOk result (λ all. all.items ≡ sets.with_cookie cookie cookies.items) }
+{
+    let mut lesser = Vec::new(alloc);
+    let mut greater = Vec::new(alloc);
+    for other in cookies {
+        let order = id_cmp(&other, &cookie);
+        if order.is_lt() {
+            lesser.push(other)?;
+        } else if order.is_gt() {
+            greater.push(other)?;
+        }
+    }
+    joined(lesser, cookie, greater)
+}
+
+/// A cookie between two lists of them.
+fn joined(
+    mut lesser: Vec<Cookie>,
+    cookie: Cookie,
+    mut greater: Vec<Cookie>,
+) -> Result<Vec<Cookie>, NoMemory>
+    ensures { IfOk result (λ all. all.items ≡ lesser.items ++ (cookie ∷ greater.items)) }
+{
+    lesser.push(cookie)?;
+    lesser.append(&mut greater)?;
+    Ok(lesser)
+}

@@ -1,0 +1,19 @@
+//! The jar as a plain list of cookies: the core whose every step is that of the definitions.
+#![tactic(auto)]
+
+mod access;
+mod answer;
+mod by_id;
+mod content;
+mod expiry;
+mod get;
+mod jar;
+mod order;
+mod set;
+mod stepped;
+
+pub use answer::answers_are_ordered;
+pub use jar::PlainJar;
+
+#[cfg(test)]
+mod tests;
