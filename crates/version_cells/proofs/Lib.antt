@@ -1,0 +1,14 @@
+mod Sums
+mod Prefixes
+mod Keeping
+mod Steps
+mod Bumping
+mod Committing
+mod Looking
+mod Fronting
+mod Cuts
+mod Joining
+mod Meeting
+mod Opening
+mod Points
+mod Reaching

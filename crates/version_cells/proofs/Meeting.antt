@@ -1,0 +1,88 @@
+-- The steps of a after_lending and a meeting, at seats whose views are known by equations.
+use Rattle.std.proofs.Common.{◌≡◌, ◌≤◌, ℕ, List, [], ◌∷◌, ◌++◌, length, Bool, false, refl, sym, ap, ◌∙◌, subst, arith, Option, Some, None, length-append, append-nil}
+use Rattle.std.proofs.lemmas.List.{nil_from_length}
+use Rattle.atomic_table.specs.Table.{Me, Joins}
+use Rattle.version_cells.specs.declared.entry.Entry.{Entry}
+use Rattle.version_cells.specs.declared.view.Memory.{Memory}
+use Rattle.version_cells.specs.declared.view.Permit.{Permit}
+use Rattle.version_cells.specs.declared.view.Kind.TheVariants.{Baton, Pass}
+use Rattle.version_cells.specs.declared.view.View.{View}
+use Rattle.version_cells.specs.Entries.{StartsWith, owned}
+use Rattle.version_cells.specs.Views.{copy_with, spent_view}
+use Rattle.version_cells.specs.Moves.{without_permit, baton_copy_with_permit, pass_copy, baton_with_copy, pass_with_copy, after_front, longer, longest, MayTake, IsOwn, is_away_after}
+use Rattle.version_cells.specs.Told.{baton_after_meet, Covers, CoversAll, FrontTells, ComesHome, Met}
+use Rattle.version_cells.proofs.Steps.{Holding}
+use Rattle.version_cells.proofs.Joining.{baton_takes, pass_takes}
+use Rattle.version_cells.proofs.Prefixes.{longer_covers, longer_keeps, starts_length}
+
+pub baton_takes_as : (id other : ℕ) (v : View) (w : Me ℕ View) (m : Memory) (p : Option Permit) → v.kind ≡ Baton → w ≡ (copy_with m p, []) → MayTake v.permit p
+    → Joins {S = ℕ} {V = View} Holding id v other w.0 (baton_with_copy v w.0) spent_view
+baton_takes_as id other v w m p kind is may = subst (λ (u : Me ℕ View). Joins {S = ℕ} {V = View} Holding id v other u.0 (baton_with_copy v u.0) spent_view) (sym is) (baton_takes id other v m p kind may)
+
+pub pass_takes_as : (id other : ℕ) (v : View) (w : Me ℕ View) (m : Memory) (p : Option Permit) → v.kind ≡ Pass → w ≡ (copy_with m p, []) → IsOwn v.number p
+    → Joins {S = ℕ} {V = View} Holding id v other w.0 (pass_with_copy v w.0) spent_view
+pass_takes_as id other v w m p kind is own = subst (λ (u : Me ℕ View). Joins {S = ℕ} {V = View} Holding id v other u.0 (pass_with_copy v u.0) spent_view) (sym is) (pass_takes id other v m p kind own)
+
+pub may_take_one : (p q : Option Permit) → p ≡ None → MayTake p q
+may_take_one p q e = subst (λ (o : Option Permit). MayTake o q) (sym e) tt
+
+pub own_home : (n : ℕ) (away : Bool) (p : Option Permit) → ComesHome n away p → IsOwn n p
+own_home n away None h = tt
+own_home n away (Some p) h = h
+
+comes_home : (n : ℕ) (away : Bool) (p : Option Permit) → ComesHome n away p → is_away_after away p ≡ false
+comes_home n away None h = h
+comes_home n away (Some p) h = refl
+
+longest_keeps : (seen : List Entry) (ms : List Memory) → length seen ≤ length (longest seen ms)
+longest_keeps seen [] = omega arith
+longest_keeps seen (m ∷ ms) = let a = longer_keeps seen m.seen in let b = longest_keeps (longer seen m.seen) ms in omega arith
+
+longest_covers : (seen : List Entry) (m : Memory) (ms : List Memory) → length m.seen ≤ length (longest seen (m ∷ ms))
+longest_covers seen m ms = let a = longer_covers seen m.seen in let b = longest_keeps (longer seen m.seen) ms in omega arith
+
+-- a list that begins another as long as it is that list
+whole : (a b : List Entry) → StartsWith a b → length a ≤ length b → a ≡ b
+whole a b s h =
+    let e = ap length s.1 ∙ length-append b s.0 in
+    let none : s.0 ≡ [] = nil_from_length s.0 (omega arith) in
+    s.1 ∙ ap (λ (l : List Entry). b ++ l) none ∙ append-nil b
+
+-- a pass took a copy of the baton in and read the number of entries
+plain : (p b : View) (found : ℕ) → ComesHome p.number p.away b.permit → FrontTells (pass_with_copy p (baton_copy_with_permit b)) found
+    → Covers b (after_front (pass_with_copy p (baton_copy_with_permit b)) found).own
+    → let q : View = after_front (pass_with_copy p (baton_copy_with_permit b)) found in Met p b q (baton_after_meet b q)
+plain p b found home f r =
+    let seen : List Entry = longest p.own.seen ((baton_copy_with_permit b).own ∷ p.notes) in
+    let covers : length b.own.seen ≤ length seen = longest_covers p.own.seen (baton_copy_with_permit b).own p.notes in
+    let same : b.own.seen ≡ seen = whole b.own.seen seen r.0 covers in
+    let lengths : length b.own.seen ≡ length seen = ap (λ (l : List Entry). length l) same in
+    let most : found ≤ length b.own.seen = r.1 in
+    let all : found ≡ length f.log = f.all in
+    let least : length seen ≤ length f.log = starts_length f.log seen f.begins in
+    let log : f.log ≡ seen = whole f.log seen f.begins (omega arith) in
+    let away : is_away_after p.away b.permit ≡ false = comes_home p.number p.away b.permit home in
+    record {
+      seen = sym same;
+      begins = f.extends;
+      found = (let n : found ≡ length seen = omega arith in n);
+      last = refl;
+      looks = refl;
+      fronts = refl;
+      number = refl;
+      calls = refl;
+      home = away;
+      owns = ap (λ (l : List Entry). owned p.number l) (sym log) ∙ f.calls away;
+      baton = refl;
+      covers = r;
+    }
+
+pub meets : (p b p1 p2 b2 : View) (found : ℕ) → ComesHome p.number p.away b.permit → p1 ≡ pass_with_copy p (baton_copy_with_permit b) → p2 ≡ after_front p1 found → FrontTells p1 found
+    → b2 ≡ baton_with_copy (without_permit b) (pass_copy p2) → CoversAll b2 b2.notes → Met p b p2 b2
+meets p b p1 p2 b2 found home e1 e2 f e3 r =
+    let is : p2 ≡ after_front (pass_with_copy p (baton_copy_with_permit b)) found = e2 ∙ ap (λ (u : View). after_front u found) e1 in
+    let told : CoversAll (baton_with_copy (without_permit b) (pass_copy p2)) (p2.own ∷ b.notes) = subst (λ (u : View). CoversAll u u.notes) e3 r in
+    subst (λ (c : View). Met p b p2 c) (sym e3)
+    (subst (λ (q : View). Met p b q (baton_after_meet b q)) (sym is)
+    (plain p b found home (subst (λ (u : View). FrontTells u found) e1 f)
+    (subst (λ (q : View). Covers b q.own) is (told.0))))

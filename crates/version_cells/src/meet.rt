@@ -1,0 +1,36 @@
+//! Meeting the baton.
+
+ghost use Rattle.std.specs.Prelude.{◌≡◌};
+ghost use Rattle.version_cells.specs.Told.{ComesHome, Met};
+ghost use Rattle.version_cells.specs.Standing.{with_view};
+
+use crate::baton::Baton;
+use crate::cells::Cells;
+use crate::copies::{BatonCopies, PassCopies};
+use crate::fronts::{BatonCounts, Fronts};
+use crate::joins::{BatonTakes, PassTakes};
+use crate::pass::Pass;
+
+impl Cells {
+    /// Shows the pass all committed entries, brings its permit home, and notes its last look.
+    ///
+    /// What pass and baton are then is the record `Met`. This jar's own rule: docs/DEFINITIONS.md.
+    pub fn meet(&self, pass: &mut Pass, baton: &mut Baton)
+        requires same { (pass.old.table ≡ self.now) × (baton.old.table ≡ self.now) }
+        requires home { ComesHome pass.old.view.number pass.old.view.away baton.old.view.permit }
+        ensures pass { pass.new ≡ with_view pass.old pass.new.view }
+        ensures baton { baton.new ≡ with_view baton.old baton.new.view }
+        ensures met { Met pass.old.view baton.old.view pass.new.view baton.new.view }
+    {
+        let copy = self.table.shared.split_seat::<BatonCopies>(&mut baton.seat);
+        self.table
+            .shared
+            .join_seat::<PassTakes>(&mut pass.seat, copy);
+        self.table.shared.load::<Fronts>(&mut pass.seat, 0);
+        let note = self.table.shared.split_seat::<PassCopies>(&mut pass.seat);
+        self.table
+            .shared
+            .join_seat::<BatonTakes>(&mut baton.seat, note);
+        self.table.shared.load::<BatonCounts>(&mut baton.seat, 0);
+    }
+}
