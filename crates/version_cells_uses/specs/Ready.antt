@@ -1,0 +1,38 @@
+-- When a pass and the baton may serve a call, and what a call leaves.
+-- This jar's own rule: docs/DEFINITIONS.md.
+use Rattle.std.specs.Prelude.{◌≡◌, ◌<◌, ◌-◌, ◌+◌, ◌^◌, ℕ, List, [], length, slice_index_or, false, None}
+use Rattle.atomic_table.specs.Seated.{TableId}
+use Rattle.version_cells.specs.Entries.{IsCell, owned}
+use Rattle.version_cells.specs.Standing.{Standing}
+
+-- the identity that stands for no table
+abbrev pub no_table : TableId
+no_table = record { words = 0; slots = 0; views_name = 0; atom = 0; block = 0; offset = 0; slot_names = [] }
+
+-- the baton goes to this table, has no pending cell, and holds no permit
+abbrev pub IsFree : TableId → Standing → Type 0
+IsFree t s = (s.table ≡ t) × (s.view.pending ≡ []) × (s.view.permit ≡ None)
+
+-- one more entry may be committed
+abbrev pub HasRoom : Standing → Type 0
+HasRoom s = length s.view.own.seen < 2 ^ 63 - 1
+
+-- The pass goes to this table, its permit is at home, and each entry of its own that it has seen
+-- counts once among its calls
+abbrev pub IsReady : TableId → Standing → Type 0
+IsReady t s =
+    (s.table ≡ t) × (s.view.away ≡ false) × (owned s.view.number s.view.own.seen ≡ s.view.calls)
+
+-- baton and pass may serve a call that moves this cell
+abbrev pub MayCall : TableId → Standing → Standing → ℕ → Type 0
+MayCall t baton pass cell = IsFree t baton × HasRoom baton × IsReady t pass × IsCell cell
+
+-- each of these passes is ready
+abbrev pub AllReady : TableId → List Standing → Type 0
+AllReady t passes =
+    (i : ℕ) (d : Standing) → i < length passes → IsReady t (slice_index_or passes i d)
+
+-- the pass keeps its number, and its calls rose by this many
+abbrev pub HasCounted : Standing → Standing → ℕ → Type 0
+HasCounted old new more =
+    (new.view.number ≡ old.view.number) × (new.view.calls ≡ old.view.calls + more)

@@ -1,0 +1,16 @@
+//! Callers of the version words: what their clauses suffice for, on one thread and on several.
+#![tactic(auto)]
+
+mod call;
+mod desk;
+mod lent;
+mod name;
+#[cfg(test)]
+mod tests;
+mod threads;
+
+pub use call::one_call;
+pub use desk::{Desk, LIMIT};
+pub use lent::three_entries;
+pub use name::Name;
+pub use threads::{Called, each_calls, turn};

@@ -1,0 +1,101 @@
+//! Passes that call on threads of their own.
+
+ghost use Rattle.std.specs.Prelude.{◌≡◌, ◌≤◌, [], IfOk, length};
+ghost use Rattle.version_cells.specs.Entries.{IsCell, turns};
+ghost use Rattle.version_cells_uses.specs.Ready.{IsFree, IsReady, AllReady};
+
+use crate::desk::Desk;
+use crate::name::Name;
+use jar_types::NoMemory;
+use std::alloc::Global;
+use std::marker::Brand;
+use std::sync::{Mutex, Wait};
+use std::thread;
+use std::thread::Threads;
+use version_cells::{Baton, Cells, Made, Pass};
+
+/// The words and the passes after their calls.
+#[derive(Drop)]
+pub struct Called {
+    /// The words.
+    pub cells: Cells,
+    /// The pass that made no call.
+    pub cutter: Pass,
+    /// The passes of the callers.
+    pub passes: Vec<Pass>,
+    ghost cutter_ready: { IsReady cells cutter },
+}
+
+/// One call under the desk's lock, and a look outside it that finds at least what was seen.
+pub fn turn<N: Name, R: Wait>(
+    rt: &R,
+    cells: &Cells,
+    desk: &Mutex<Desk<N>>,
+    pass: &mut Pass,
+    cell: u32,
+) -> u64
+    requires same { cells.now ≡ N.table }
+    requires pass { IsReady N.table pass.old }
+    requires cell { IsCell cell }
+    ensures pass { IsReady N.table pass.new }
+    ensures never_back { turns cell pass.new.view.own.seen ≤ result }
+{
+    desk.lock(rt).call(cells, pass, cell);
+    cells.look(pass, cell)
+}
+
+fn each_named<N: Name + Send + Sync, R: Threads + Wait + Sync>(
+    rt: &R,
+    cells: &Cells,
+    baton: Baton,
+    passes: &mut [Pass],
+)
+    requires same { cells.now ≡ N.table }
+    requires baton { IsFree N.table baton × (baton.view.own.seen ≡ []) }
+    requires ready { AllReady N.table passes.old }
+    ensures ready { AllReady N.table passes.new }
+{
+    let desk = Mutex::new(Desk::<N>::new(baton));
+    let shared = &desk;
+    let count = passes.len();
+    if count == 0 {
+        return;
+    }
+    thread::for_each_mut(
+        rt,
+        passes,
+        count,
+        &|_, pass: &mut Pass|
+            requires { (cells.now ≡ N.table) × IsReady N.table pass.now }
+            ensures { IsReady N.table pass.exit.now }
+        {
+            turn(rt, cells, shared, pass, 5);
+            turn(rt, cells, shared, pass, 5);
+        },
+    );
+}
+
+/// Makes words and passes, and has each pass make two calls on a thread, each moving cell 5.
+///
+/// After them each entry that a pass owns and has seen counts once among its calls.
+pub fn each_calls<R: Threads + Wait + Sync>(
+    rt: &R,
+    alloc: Global,
+    callers: u32,
+) -> Result<Called, NoMemory>
+    ensures all { IfOk result (λ c. length c.passes.items ≡ callers) }
+    ensures ready { IfOk result (λ c. AllReady c.cells c.passes.items) }
+{
+    let Made {
+        cells,
+        baton,
+        cutter,
+        mut passes,
+    } = Cells::make(alloc, callers)?;
+    each_named::<Brand, R>(rt, &cells, baton, passes.as_mut_slice());
+    Ok(Called {
+        cells,
+        cutter,
+        passes,
+    })
+}
