@@ -1,0 +1,7 @@
+pub mod Floats
+pub mod FormLemmas
+pub mod PlacesLemmas
+pub mod InputLemmas
+pub mod ReportLemmas
+pub mod SerialLemmas
+pub mod LegalLemmas

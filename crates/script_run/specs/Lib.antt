@@ -1,0 +1,10 @@
+pub mod BareLines
+pub mod Form
+pub mod Drafts
+pub mod Reports
+pub mod Serial
+pub mod Legal
+pub mod Rounds
+pub mod Refusals
+pub mod Inputs
+pub mod Tool
