@@ -1,5 +1,5 @@
 -- Hosts. RFC 6265, section 5.1.3 (domain matching).
-use Rattle.std.specs.Prelude.{ℕ, List, [], ◌∷◌, Bool, true, false, not, ◌&&◌, ◌||◌, ◌==◌, nat_eq, bytes_eq, codes}
+use Rattle.std.specs.Prelude.{ℕ, List, [], ◌∷◌, drop, Bool, false, not, ◌&&◌, ◌||◌, ◌==◌, nat_eq, bytes_eq, codes, if◌then◌else◌}
 use Rattle.std.specs.List.{starts_with, ends_with, list_all, after_last}
 use Rattle.std.specs.Char.{is_ascii_digit}
 
@@ -19,3 +19,7 @@ is_ip_host host = starts_with nat_eq host (codes "[") || is_number (last_label h
 -- the host is the domain, or a name that ends with a dot and the domain
 abbrev pub domain_matches : List ℕ → List ℕ → Bool
 domain_matches host domain = bytes_eq host domain || (ends_with nat_eq host (46 ∷ domain) && not (is_ip_host host))
+
+-- the host of a cookie without the dot before a domain
+abbrev pub undotted : List ℕ → List ℕ
+undotted host = if starts_with nat_eq host (codes ".") then drop 1 host else host

@@ -1,6 +1,6 @@
 -- The id of a cookie and the order of ids. The 6265bis draft, section 5.7 (storage model), whose name, domain,
 -- host-only flag and path make up the identity of a cookie.
-use Rattle.std.specs.Prelude.{ℕ, List, Bool, ◌≡◌}
+use Rattle.std.specs.Prelude.{ℕ, List, Bool}
 use Rattle.std.specs.Ordering.{nat_cmp, ordering_then, is_eq}
 use Rattle.std.specs.Cmp.Lexicographic.{slice_cmp}
 use Rattle.std.specs.List.Sorted.{IsStrictlySortedBy}

@@ -1,19 +1,24 @@
 -- Journals: the state that they lead to, and which of them the jar of one thread can have made.
 -- This jar's own rule: docs/DEFINITIONS.md.
-use Rattle.std.specs.Prelude.{ℕ, ◌≡◌, List, [], ◌∷◌, ◌++◌, ◌&&◌, ◌==◌, Bool, true, false, map, fold, nat_lt}
+use Rattle.std.specs.Prelude.{ℕ, ◌≡◌, List, [], ◌∷◌, ◌++◌, ◌&&◌, ◌==◌, Bool, true, map, fold, nat_lt, bytes_eq}
+use Rattle.jar_types.specs.declared.op.Op.{Op}
+use Rattle.jar_types.specs.declared.op.Op.TheVariants.{Set, Get}
 use Rattle.jar_types.specs.declared.entry.Own.{Own}
 use Rattle.jar_types.specs.declared.entry.Own.TheVariants.{Whole}
 use Rattle.jar_types.specs.declared.entry.Event.{Event}
 use Rattle.jar_types.specs.declared.entry.Event.TheVariants.{Call as CallEvent, Jar as JarEvent}
 use Rattle.jar_types.specs.declared.entry.Entry.{Entry}
+use Rattle.jar_types.specs.Hosts.{undotted}
 use Rattle.jar_types.specs.States.{JarState, opening}
 use Rattle.jar_types.specs.Steps.{after, entry_of, event_of, own_may_stand}
 
--- what a jar was opened for: how many callers, how many entries they may have in all, and the moment of its start
+-- what a jar was opened for: how many callers, how many entries they may have in all, the moment of its start, and the
+-- key of each host
 pub record Rules : Type 0 where
   pub callers : ℕ
   pub limit : ℕ
   pub start : ℕ
+  pub key_of : List ℕ → List ℕ
 
 -- the events of a journal
 abbrev pub events : List Entry → List Event
@@ -28,9 +33,15 @@ run s (v ∷ vs) = entry_of s v ∷ run (after s v) vs
 abbrev pub is_at_start : Rules → Own → Bool
 is_at_start r (Whole now) = now == r.start
 
--- whether an event may come: its caller is one, and the limit isn't reached; or the jar may do this itself
+-- whether an op is well keyed: a cookie to be stored has the key of its host or domain
+abbrev pub is_well_keyed : Rules → Op → Bool
+is_well_keyed r (Set cookie script secure) = bytes_eq cookie.key (r.key_of (undotted cookie.host))
+is_well_keyed r (Get request) = true
+
+-- whether an event may come: its caller is one, the limit isn't reached, and the op is well keyed; or the jar may do
+-- this itself
 abbrev pub stands : Rules → JarState → Event → Bool
-stands r s (CallEvent caller now op) = nat_lt caller r.callers && nat_lt s.calls r.limit
+stands r s (CallEvent caller now op) = nat_lt caller r.callers && (nat_lt s.calls r.limit && is_well_keyed r op)
 stands r s (JarEvent own) = own_may_stand s own && is_at_start r own
 
 -- whether each of these events may come where it comes

@@ -1,6 +1,6 @@
 -- Which cookies a request gets. RFC 6265, section 5.4, step 1, and the 6265bis draft, section 5.8.3; that keys must be
 -- equal and the two minutes of an unspecified SameSite are this jar's own rules.
-use Rattle.std.specs.Prelude.{ℕ, ◌+◌, List, [], ◌∷◌, drop, Bool, true, false, not, ◌&&◌, ◌||◌, nat_eq, nat_le, bytes_eq, codes, Option, None, Some}
+use Rattle.std.specs.Prelude.{ℕ, ◌+◌, List, drop, Bool, true, false, not, ◌&&◌, ◌||◌, nat_eq, nat_le, bytes_eq, codes}
 use Rattle.std.specs.List.{starts_with}
 use Rattle.jar_types.specs.declared.cookie.Cookie.{Cookie}
 use Rattle.jar_types.specs.declared.cookie.SameSite.{SameSite}

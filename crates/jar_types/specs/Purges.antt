@@ -1,6 +1,6 @@
 -- Which cookies have expired, and a key without them. RFC 6265, section 5.3 (expiry); that a key is purged before each
 -- use is this jar's own rule.
-use Rattle.std.specs.Prelude.{ℕ, List, Bool, true, false, not, ◌&&◌, nat_le, bytes_eq, filter, Option, None, Some}
+use Rattle.std.specs.Prelude.{ℕ, List, Bool, false, not, ◌&&◌, nat_le, bytes_eq, filter, Option, None, Some}
 use Rattle.jar_types.specs.declared.cookie.Cookie.{Cookie}
 
 -- an expiry has come

@@ -1,5 +1,5 @@
 -- The jar of one thread: its state. This jar's own rule: docs/DEFINITIONS.md.
-use Rattle.std.specs.Prelude.{ℕ, ◌+◌, List, [], Bool, false}
+use Rattle.std.specs.Prelude.{ℕ, List, [], Bool, false}
 use Rattle.jar_types.specs.declared.cookie.Cookie.{Cookie}
 use Rattle.jar_types.specs.declared.op.Reply.{Reply}
 

@@ -1,5 +1,5 @@
 -- One step of the jar of one thread, op by op. This jar's own rule: docs/DEFINITIONS.md.
-use Rattle.std.specs.Prelude.{ℕ, ◌+◌, Bool, true, false, not}
+use Rattle.std.specs.Prelude.{ℕ, ◌+◌, Bool, true, not}
 use Rattle.jar_types.specs.declared.op.Op.{Op}
 use Rattle.jar_types.specs.declared.op.Op.TheVariants.{Set, Get}
 use Rattle.jar_types.specs.declared.entry.Own.{Own}

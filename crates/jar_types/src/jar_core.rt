@@ -1,6 +1,6 @@
 //! What a core of the jar does: it holds the content, prepares entries and settles them.
 
-ghost use Rattle.std.specs.Prelude.{◌≡◌, ◌<◌, ◌-◌, ◌^◌, [], true, IfOk, IsOkUnless};
+ghost use Rattle.std.specs.Prelude.{◌≡◌, ◌<◌, ◌-◌, ◌^◌, [], true, IfOk};
 ghost use Rattle.jar_types.specs.States.{opening};
 ghost use Rattle.jar_types.specs.Steps.{after, entry_of, event_of, may_come};
 ghost use Rattle.jar_types.specs.declared.jar_core.CoreRefusal.TheVariants.{NoMemory as WantOfMemory};
@@ -16,6 +16,17 @@ use std::fmt;
 #[derive(Drop)]
 pub struct Prepared {
     pub entry: Entry,
+}
+
+impl Prepared {
+    /// The same again.
+    pub fn copy(&self, alloc: Global) -> Result<Prepared, NoMemory>
+        ensures { IfOk result (λ prepared. prepared ≡ self.now) }
+    {
+        Ok(Prepared {
+            entry: self.entry.copy(alloc)?,
+        })
+    }
 }
 
 /// Why a core prepares no entry.

@@ -1,8 +1,8 @@
 //! Each allocating call once with ample memory, with its answer.
 
 use crate::{
-    Context, Cookie, CookieId, Cookies, Entry, Journal, Moment, NoMemory, Op, Priority, Reply,
-    Request, SameSite, Text, Texts,
+    Context, Cookie, CookieId, Cookies, Entry, Event, Journal, Moment, NoMemory, Op, Own, Prepared,
+    Priority, Reply, Request, SameSite, Text, Texts,
 };
 use std::alloc::Global;
 use std::test::Fail;
@@ -101,5 +101,31 @@ fn a_copied_request_and_copied_texts_are_the_same(rt: HostRuntime) -> Result<(),
     texts.push(request.copy(alloc)?.host)?;
     let copies = texts.copy(alloc)?;
     assert_eq!(rt; copies.get(0).map(Text::as_str), Some("h.test"));
+    Ok(())
+}
+
+/// The milliseconds of the moment at which the jar becomes whole by an own entry.
+fn whole_at(own: &Own) -> u64 {
+    match own {
+        Own::Whole(now) => now.ms(),
+    }
+}
+
+#[test]
+fn copied_events_and_prepared_entries_are_the_same(rt: HostRuntime) -> Result<(), Fail> {
+    let alloc = rt.alloc();
+    let now = Moment::of(7).ok_or("no moment")?;
+    let event = Event::Jar(Own::Whole(now)).copy(alloc)?;
+    let prepared = Prepared {
+        entry: Entry::Jar(Own::Whole(now)),
+    };
+    let copy = prepared.copy(alloc)?;
+    match (&event, &copy.entry) {
+        (Event::Jar(own), Entry::Jar(entry)) => {
+            assert_eq!(rt; whole_at(own), 7);
+            assert_eq!(rt; whole_at(entry), 7);
+        }
+        _ => return Err("another event or entry".into()),
+    }
     Ok(())
 }
