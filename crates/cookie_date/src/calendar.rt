@@ -1,6 +1,6 @@
 //! The moment of a date and a time of day.
 
-ghost use Rattle.std.specs.Prelude.{◌≡◌, ◌<◌, ◌≤◌, ◌+◌, ◌*◌, pos, IfSome, IsSome, ◌↔◌};
+ghost use Rattle.std.specs.Prelude.{◌≡◌, ◌<◌, ◌≤◌, ◌+◌, ◌*◌, IfSome};
 ghost use Rattle.cookie_date.specs.Parts.{FitParts};
 ghost use Rattle.cookie_date.specs.Date as spec;
 ghost use Rattle.jiff_core.specs.Calendar.{IsEpochDay};

@@ -1,11 +1,10 @@
 -- The definitions at values from outside: the Public Suffix List format's forms of rules, on hosts of our own.
-use Rattle.std.proofs.Common.{ℕ, ◌≡◌, List, [], ◌∷◌, refl, false, true}
+use Rattle.std.proofs.Common.{ℕ, ◌≡◌, List, [], ◌∷◌, refl}
 use Rattle.std.specs.Prelude.{codes}
 use Rattle.public_suffix.specs.declared.rule.Mark.{Mark}
 use Rattle.public_suffix.specs.declared.rule.Mark.TheVariants.{Plain, Wildcard, Exception}
-use Rattle.public_suffix.specs.Labels.{labels_of, has_suffix}
 use Rattle.public_suffix.specs.Rule.{SuffixRule, rule_labels}
-use Rattle.public_suffix.specs.Suffix.{key_of, suffix_len}
+use Rattle.public_suffix.specs.Suffix.{key_of}
 
 -- the rule of a mark and a text
 abbrev rule_of : Mark → List ℕ → SuffixRule

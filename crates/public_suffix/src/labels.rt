@@ -1,6 +1,6 @@
 //! The labels of hosts.
 
-ghost use Rattle.std.specs.Prelude.{◌+◌, ℕ, List, false, ◌≡◌, ◌<◌, ◌≤◌, ◌==◌, ◌∷◌, [], length, MatchOption, IsTrue};
+ghost use Rattle.std.specs.Prelude.{◌+◌, ℕ, List, false, ◌≡◌, ◌<◌, ◌≤◌, ◌∷◌, [], length, MatchOption};
 ghost use Rattle.std.specs.List.{list_any};
 ghost use Rattle.public_suffix.specs.Labels as spec;
 ghost use Rattle.public_suffix.specs.Rule.{rule_labels};

@@ -1,6 +1,6 @@
 //! Suffix lists.
 
-ghost use Rattle.std.specs.Prelude.{◌≡◌, ◌+◌, ◌^◌, ◌≤◌, ◌<◌, IfOk, ◌↔◌, Bool, true, false, length, map, IsTrue};
+ghost use Rattle.std.specs.Prelude.{◌≡◌, ◌+◌, ◌^◌, ◌≤◌, ◌<◌, IfOk, ◌↔◌, true, false, length, map, IsTrue};
 ghost use Rattle.std.specs.List.{list_any};
 ghost use Rattle.public_suffix.specs.Labels.{labels_of, is_empty};
 ghost use Rattle.public_suffix.specs.Rule.{rule_labels, is_rule};

@@ -1,6 +1,6 @@
 //! Blanks round a text.
 
-ghost use Rattle.std.specs.Prelude.{◌≡◌, ◌≤◌, length};
+ghost use Rattle.std.specs.Prelude.{◌≡◌};
 ghost use Rattle.std.specs.List.{prefix_len, suffix_len};
 ghost use Rattle.set_cookie_line.specs.Blanks as spec;
 

@@ -1,6 +1,6 @@
 //! What lies under the lock.
 
-ghost use Rattle.std.specs.Prelude.{◌≡◌, ◌<◌, ◌≤◌, ◌-◌, ◌+◌, ◌^◌, [], length, false, true};
+ghost use Rattle.std.specs.Prelude.{◌≡◌, ◌<◌, ◌≤◌, ◌-◌, ◌+◌, [], length, false, true};
 ghost use Rattle.version_cells.specs.Entries.{IsCell};
 ghost use Rattle.version_cells_uses.specs.declared.desk.TheConstants.{LIMIT};
 ghost use Rattle.version_cells_uses.specs.Ready.{IsFree, IsReady, HasCounted};
