@@ -1,6 +1,6 @@
 //! Domain matching.
 
-ghost use Rattle.std.specs.Prelude.{◌≡◌, ◌∷◌, ◌||◌, ◌&&◌, nat_eq, codes, drop, bytes_eq};
+ghost use Rattle.std.specs.Prelude.{◌≡◌, ◌∷◌, ◌||◌, ◌&&◌, nat_eq, codes, drop};
 ghost use Rattle.std.specs.List.{starts_with, ends_with};
 ghost use Rattle.jar_types.specs.Hosts.{domain_matches};
 ghost use Rattle.jar_types.specs.Matches.{host_matches};
