@@ -2,7 +2,7 @@
 
 ghost use Rattle.std.specs.Prelude.{◌≡◌, ◌++◌, ◌∷◌, [], IfOk, map, option_copied, find};
 ghost use Rattle.jar_types.specs.Gets as gets;
-ghost use Rattle.jar_types.specs.Ids.{RisesById, same_id};
+ghost use Rattle.jar_types.specs.Ids.{RisesById};
 ghost use Rattle.jar_types.specs.Purges as purges;
 ghost use Rattle.jar_types.specs.Sets as sets;
 
