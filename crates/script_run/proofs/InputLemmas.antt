@@ -4,14 +4,13 @@ use Rattle.std.specs.Prelude.{codes, nat_le, option_and_then, if◌then◌else�
 use Rattle.std.proofs.lemmas.Bool.Decides.{nat_tests}
 use Rattle.serde_json.specs.Data.{Data, Items, no_items, item}
 use Rattle.serde_json.specs.Find.{get, as_array}
-use Rattle.serde_json.proofs.OnLiterals.{serde_json_on_literals}
 use Rattle.script_run.specs.declared.step.TheConstants.{MOST_STEPS}
 use Rattle.script_run.specs.declared.draft.DraftStep.{DraftStep}
 use Rattle.script_run.specs.declared.draft.Draft.{Draft}
 use Rattle.script_run.specs.declared.input.Input.{Input}
 use Rattle.script_run.specs.declared.input.Input.TheVariants.{TooLarge, NotJson, NotBuilt, BadSuffixes, BadPlace, Script}
 use Rattle.script_run.specs.Form.{item_count, with_first, step_of, steps_of, steps_within, fetch_steps, fetch_by, text_at, fetch_of, sole_actor, suffixes_from, draft_from, draft_of}
-use Rattle.script_run.specs.Inputs.{IsShort, IsInputOf, input_text}
+use Rattle.script_run.specs.Inputs.{IsShort, IsInputOf}
 use Rattle.script_run.proofs.PlacesLemmas.{length-steps}
 
 if_some : {X : Type 0} (b : Bool) (o : Option X) (x : X) → (if b then o else None) ≡ Some x → o ≡ Some x

@@ -1,9 +1,7 @@
 -- What an input is, and what is due for it. This jar's own rule: docs/DEFINITIONS.md.
-use Rattle.std.specs.Prelude.{◌≡◌, ℕ, ◌+◌, ◌≤◌, ◌++◌, List, [], ◌∷◌, length, codes, Option, None, Some, IsUtf8, Ok, Err}
-use Rattle.std.specs.Fmt.{decimal}
-use Rattle.serde_json.specs.Data.{Data, string, object, no_members, member}
+use Rattle.std.specs.Prelude.{◌≡◌, ℕ, ◌+◌, ◌≤◌, List, [], length, codes, Option, None, Some, IsUtf8, Ok, Err}
+use Rattle.serde_json.specs.Data.{Data}
 use Rattle.serde_json.specs.Read.{read}
-use Rattle.serde_json.specs.Written.{compact_text}
 use Rattle.jar_edge.specs.Streams.{ReadsToEnd, Takes}
 use Rattle.script_run.specs.declared.draft.Draft.{Draft}
 use Rattle.script_run.specs.declared.places.PlacesRefusal.TheVariants as refusal

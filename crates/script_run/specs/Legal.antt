@@ -4,19 +4,25 @@ use Rattle.std.specs.Prelude.{ℕ, ◌≡◌, ◌≤◌, ◌+◌, List, [], ◌�
 use Rattle.jar_types.specs.declared.entry.Entry.{Entry}
 use Rattle.jar_types.specs.declared.entry.Entry.TheVariants.{Call, Jar}
 use Rattle.jar_types.specs.Journals.{Rules, IsLegal}
+use Rattle.public_suffix.specs.Rule.{SuffixRule}
+use Rattle.public_suffix.specs.Suffix.{key_of}
+use Rattle.script_run.specs.declared.draft.DraftStep.{DraftStep}
 use Rattle.script_run.specs.declared.step.Step.{Step}
 use Rattle.script_run.specs.declared.item.Item.{Item}
 use Rattle.script_run.specs.declared.item.Item.TheVariants.{At, Refused}
+use Rattle.script_run.specs.Drafts.{StepsFrom}
 use Rattle.script_run.specs.Serial.{run_start, serial_items, serial_journal}
 
--- the rules of a run of one caller, who may make this many entries
-abbrev pub rules_of : ℕ → Rules
-rules_of limit = record { callers = 1; limit = limit; start = run_start }
+-- the rules of a run of one caller, who may make this many entries, with keys by these suffix rules
+abbrev pub rules_of : List SuffixRule → ℕ → Rules
+rules_of suffixes limit = record { callers = 1; limit = limit; start = run_start; key_of = key_of suffixes }
 
--- the journal of a script is legal wherever the caller may make an entry for each step
+-- the journal of a script is legal by its suffix rules, wherever the caller may make an entry for each step
 abbrev pub SerialJournalsAreLegal : Type 0
 SerialJournalsAreLegal =
-    (steps : List Step) (limit : ℕ) → length steps ≤ limit → IsLegal (rules_of limit) (serial_journal steps)
+    (suffixes : List SuffixRule) (drafts : List DraftStep) (steps : List Step) (limit : ℕ)
+    → StepsFrom suffixes drafts steps → length steps ≤ limit
+    → IsLegal (rules_of suffixes limit) (serial_journal steps)
 
 -- the places of the callers' entries, where the first entry of the list has this place
 abbrev pub call_places : ℕ → List Entry → List ℕ

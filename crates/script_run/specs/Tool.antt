@@ -1,6 +1,6 @@
 -- What the program does for its words: the statuses, and what is written under each. This jar's own rule:
 -- docs/DEFINITIONS.md.
-use Rattle.std.specs.Prelude.{◌≡◌, ◌⊎◌, ℕ, List, [], ◌∷◌, Bool, true, false, bytes_eq, codes, Option, Result, Ok, Err}
+use Rattle.std.specs.Prelude.{◌≡◌, ◌⊎◌, ℕ, List, [], ◌∷◌, Bool, false, bytes_eq, codes, Option, Result, Ok, Err}
 use Rattle.std.specs.Io.KnownBytes.{Appends}
 use Rattle.jar_edge.specs.Faults.{Rose}
 use Rattle.jar_edge.specs.Streams.{WritesPart}

@@ -1,6 +1,6 @@
 //! Cookies and requests as JSON.
 
-ghost use Rattle.std.specs.Prelude.{◌≡◌, IfOk, map};
+ghost use Rattle.std.specs.Prelude.{◌≡◌, IfOk};
 ghost use Rattle.serde_json.specs.View.{view};
 ghost use Rattle.script_run.specs.Reports.{expiry_data, priority_word, same_site_word, context_word, cookie_data, request_data};
 

@@ -1,6 +1,6 @@
 //! The form of a script, over a JSON value.
 
-ghost use Rattle.std.specs.Prelude.{◌≡◌, ◌<◌, ◌^◌, length, codes, option_map, option_and_then, MatchOption, IfOk};
+ghost use Rattle.std.specs.Prelude.{◌≡◌, ◌<◌, ◌^◌, length, option_map, option_and_then, MatchOption, IfOk};
 ghost use Rattle.serde_json.specs.View.{view, items_view};
 ghost use Rattle.script_run.specs.Form as spec;
 ghost use Rattle.script_run.specs.Form.{Reads, size};

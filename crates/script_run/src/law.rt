@@ -2,8 +2,8 @@
 
 ghost use Rattle.script_run.specs.Legal.{SerialJournalsAreLegal, ItemsNameTheCalls};
 
-/// The journal of a script is legal: each reply in it is that of the jar of one thread, and each entry may stand where it
-/// stands.
+/// The journal of a script is legal by its suffix rules: each reply in it is that of the jar of one thread, and each entry
+/// may stand where it stands.
 pub fn serial_journals_are_legal()
     ensures { SerialJournalsAreLegal }
 {}

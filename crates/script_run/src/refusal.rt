@@ -1,6 +1,6 @@
 //! The line of a refused input.
 
-ghost use Rattle.std.specs.Prelude.{◌≡◌, ◌++◌, IfOk, codes, decimal, string_bytes};
+ghost use Rattle.std.specs.Prelude.{◌≡◌, IfOk, string_bytes};
 ghost use Rattle.serde_json.specs.View.{view};
 ghost use Rattle.script_run.specs.Refusals.{refusal_data, refusal_text, place_path};
 

@@ -8,7 +8,7 @@ ghost use Rattle.script_run.specs.Rounds.{Continues};
 ghost use Rattle.script_run.specs.declared.item.Item.TheVariants.{At};
 ghost use Rattle.set_cookie_line.specs.Line.{read};
 ghost use Rattle.set_cookie_line.specs.declared.line.LineRefusal.TheVariants.{NoMemory as WantOfMemory};
-ghost use Rattle.jar_types.specs.declared.entry.Event.TheVariants.{Call as CallEvent, Jar as JarEvent};
+ghost use Rattle.jar_types.specs.declared.entry.Event.TheVariants.{Jar as JarEvent};
 ghost use Rattle.jar_types.specs.declared.entry.Own.TheVariants.{Whole};
 ghost use Rattle.script_run.specs.declared.step.TheConstants.{MOST_STEPS};
 

@@ -1,9 +1,9 @@
 //! The program, over a source and a sink.
 
-ghost use Rattle.std.specs.Prelude.{◌≡◌, ◌≢◌, true, false, map, IfOk, IfErr};
+ghost use Rattle.std.specs.Prelude.{◌≡◌, ◌≢◌, true, false, map, IfOk};
 ghost use Rattle.jar_edge.specs.Faults.{Rose};
-ghost use Rattle.script_run.specs.Inputs.{IsInput, IsShort, input_status, input_text};
-ghost use Rattle.script_run.specs.Tool.{is_serial, usage_text, Writes, CountsFailure, Streams, IsDue, Answers};
+ghost use Rattle.script_run.specs.Inputs.{IsInput, IsShort};
+ghost use Rattle.script_run.specs.Tool.{is_serial, usage_text, Writes, CountsFailure, IsDue, Answers};
 
 use crate::input::{Input, MOST_INPUT, judged};
 use crate::output::{status_of, text_of};
