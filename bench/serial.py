@@ -33,6 +33,9 @@ MADE_RULES = 9500
 # Steps, hosts and cookies of a host of the runs without a suffix list.
 SHAPES = ((1, 1, 1), (60, 6, 5), (180, 1, 90), (180, 6, 15), (180, 90, 1))
 
+# Two of them, of which the second has three times the steps and the cookies of the first.
+GROWING = ((60, 6, 5), (180, 6, 15))
+
 # The runs over lists: a step alone, which is the time of the list, and 180.
 OVER_LISTS = ((1, 1, 1), (180, 6, 15))
 
@@ -125,6 +128,10 @@ def main():
     over, bare = ((spent[many, count] - spent[one, count]) / steps for count in (len(rules), 0))
     print(f"reading the list: {lists:.2f} ms, {1000 * lists / len(rules):.2f} us a rule")
     print(f"a step more: {1000 * over:.1f} us over the list, {1000 * bare:.1f} us without one")
+
+    # Three times the steps set three times the cookies: an answer has three times as many, and each step copies the jar.
+    fewer, more = (spent[shape, 0] for shape in GROWING)
+    print(f"growth: {GROWING[1][0] // GROWING[0][0]} times the steps and cookies take {more / fewer:.1f} times the time of a run")
 
 
 if __name__ == "__main__":
