@@ -23,9 +23,11 @@ use Rattle.script_run.specs.declared.draft.DraftStep.{DraftStep}
 use Rattle.script_run.specs.declared.step.Step.{Step}
 use Rattle.script_run.specs.declared.step.What.{What}
 use Rattle.script_run.specs.declared.step.What.TheVariants.{Set, Get}
-use Rattle.script_run.specs.declared.item.RefusalName.{RefusalName}
+use Rattle.script_run.specs.declared.ask.Ask.{Ask}
+use Rattle.script_run.specs.declared.ask.Ask.TheVariants as ask
 use Rattle.script_run.specs.Drafts.{IsPlace, StepsFrom}
-use Rattle.script_run.specs.Serial.{asked, asked_by, set_asked, call_events, step_events, run_start, serial_events, item_of, next_place, step_items}
+use Rattle.script_run.specs.Ask.{ask_of, ask_at, ask_of_line}
+use Rattle.script_run.specs.Serial.{call_events, step_events, run_start, serial_events, item_of, next_place, step_items}
 use Rattle.script_run.specs.Legal.{rules_of, SerialJournalsAreLegal, call_places, named_places, ItemsNameTheCalls}
 
 -- a run tells its events
@@ -61,15 +63,15 @@ steps_keyed suffixes (draft ∷ drafts) (step ∷ steps) h =
     (place_keyed suffixes draft.url step.place h.0.place, steps_keyed suffixes drafts steps h.1)
 
 -- what is asked is well keyed
-abbrev AskedKeyed : List SuffixRule → ℕ → Result Op RefusalName → Type 0
-AskedKeyed suffixes limit (Ok op) = is_well_keyed (rules_of suffixes limit) op ≡ true
-AskedKeyed suffixes limit (Err name) = Unit {0}
+abbrev AskKeyed : List SuffixRule → ℕ → Ask → Type 0
+AskKeyed suffixes limit (ask.Op op) = is_well_keyed (rules_of suffixes limit) op ≡ true
+AskKeyed suffixes limit (ask.Refused name) = Unit {0}
 
-set_keyed : (suffixes : List SuffixRule) (limit : ℕ) (place : Place) (now : ℕ) (r : Result Line LineRefusal) → IsKeyed suffixes place → AskedKeyed suffixes limit (set_asked place now r)
+set_keyed : (suffixes : List SuffixRule) (limit : ℕ) (place : Place) (now : ℕ) (r : Result Line LineRefusal) → IsKeyed suffixes place → AskKeyed suffixes limit (ask_of_line place now r)
 set_keyed suffixes limit place now (Ok line) h = h
 set_keyed suffixes limit place now (Err refusal) h = tt
 
-what_keyed : (suffixes : List SuffixRule) (limit : ℕ) (what : What) (place : Place) (now : ℕ) → IsKeyed suffixes place → AskedKeyed suffixes limit (asked_by what place now)
+what_keyed : (suffixes : List SuffixRule) (limit : ℕ) (what : What) (place : Place) (now : ℕ) → IsKeyed suffixes place → AskKeyed suffixes limit (ask_at what place now)
 what_keyed suffixes limit (Set line) place now h = set_keyed suffixes limit place now (read line) h
 what_keyed suffixes limit Get place now h = refl
 
@@ -79,37 +81,37 @@ call_stands : (suffixes : List SuffixRule) (limit : ℕ) (s : JarState) (now : �
 call_stands suffixes limit s now op h keyed = rw (is_below s.calls limit h, keyed) refl
 
 -- what is asked makes one entry at most
-asked_stand : (suffixes : List SuffixRule) (limit : ℕ) (s : JarState) (now : ℕ) (r : Result Op RefusalName) (rest : List Event)
-    → s.calls < limit → AskedKeyed suffixes limit r
+ask_stands : (suffixes : List SuffixRule) (limit : ℕ) (s : JarState) (now : ℕ) (r : Ask) (rest : List Event)
+    → s.calls < limit → AskKeyed suffixes limit r
     → ((t : JarState) → t.calls ≤ s.calls + 1 → all_stand (rules_of suffixes limit) t rest ≡ true)
     → all_stand (rules_of suffixes limit) s (call_events now r ++ rest) ≡ true
-asked_stand suffixes limit s now (Ok op) rest h keyed others =
+ask_stands suffixes limit s now (ask.Op op) rest h keyed others =
     rw (call_stands suffixes limit s now op h keyed) (others (after s (CallEvent 0 now op)) (omega arith))
-asked_stand suffixes limit s now (Err name) rest h keyed others = others s (omega arith)
+ask_stands suffixes limit s now (ask.Refused name) rest h keyed others = others s (omega arith)
 
 steps_stand : (suffixes : List SuffixRule) (limit : ℕ) (steps : List Step) (s : JarState) → AreKeyed suffixes steps
     → s.calls + length steps ≤ limit → all_stand (rules_of suffixes limit) s (step_events steps) ≡ true
 steps_stand suffixes limit [] s keyed h = refl
 steps_stand suffixes limit (step ∷ steps) s keyed h =
-    asked_stand suffixes limit s step.now (asked step) (step_events steps) (omega arith)
+    ask_stands suffixes limit s step.now (ask_of step) (step_events steps) (omega arith)
     (what_keyed suffixes limit step.what step.place step.now keyed.0)
     (λ t few. steps_stand suffixes limit steps t keyed.1 (omega arith))
 
 -- the jar becomes whole behind the first step
-first_stands : (suffixes : List SuffixRule) (limit : ℕ) (now : ℕ) (r : Result Op RefusalName) (steps : List Step)
-    → AskedKeyed suffixes limit r → AreKeyed suffixes steps → 1 + length steps ≤ limit
+first_stands : (suffixes : List SuffixRule) (limit : ℕ) (now : ℕ) (r : Ask) (steps : List Step)
+    → AskKeyed suffixes limit r → AreKeyed suffixes steps → 1 + length steps ≤ limit
     → all_stand (rules_of suffixes limit) opening (call_events now r ++ (JarEvent (Whole run_start) ∷ step_events steps)) ≡ true
-first_stands suffixes limit now (Ok op) steps first keyed h =
+first_stands suffixes limit now (ask.Op op) steps first keyed h =
     rw (call_stands suffixes limit opening now op (omega arith) first)
     (steps_stand suffixes limit steps (after (after opening (CallEvent 0 now op)) (JarEvent (Whole run_start))) keyed (omega arith))
-first_stands suffixes limit now (Err name) steps first keyed h =
+first_stands suffixes limit now (ask.Refused name) steps first keyed h =
     steps_stand suffixes limit steps (after opening (JarEvent (Whole run_start))) keyed (omega arith)
 
 serial_stands : (suffixes : List SuffixRule) (limit : ℕ) (steps : List Step) → AreKeyed suffixes steps → length steps ≤ limit
     → all_stand (rules_of suffixes limit) opening (serial_events steps) ≡ true
 serial_stands suffixes limit [] keyed h = refl
 serial_stands suffixes limit (step ∷ steps) keyed h =
-    first_stands suffixes limit step.now (asked step) steps (what_keyed suffixes limit step.what step.place step.now keyed.0) keyed.1 (omega arith)
+    first_stands suffixes limit step.now (ask_of step) steps (what_keyed suffixes limit step.what step.place step.now keyed.0) keyed.1 (omega arith)
 
 pub serial_legal : SerialJournalsAreLegal
 serial_legal suffixes drafts steps limit from h =
@@ -120,22 +122,22 @@ serial_legal suffixes drafts steps limit from h =
     }
 
 -- the item of what is asked names the entry that it makes, where the later items name theirs
-asked_named : (p : ℕ) (s : JarState) (now : ℕ) (r : Result Op RefusalName) (steps : List Step)
+ask_named : (p : ℕ) (s : JarState) (now : ℕ) (r : Ask) (steps : List Step)
     → ((q : ℕ) (t : JarState) → named_places (step_items q steps) ≡ call_places q (run t (step_events steps)))
     → named_places (item_of p r ∷ step_items (next_place p r) steps) ≡ call_places p (run s (call_events now r ++ step_events steps))
-asked_named p s now (Ok op) steps others = ap (λ ps. p ∷ ps) (others (p + 1) (after s (CallEvent 0 now op)))
-asked_named p s now (Err name) steps others = others p s
+ask_named p s now (ask.Op op) steps others = ap (λ ps. p ∷ ps) (others (p + 1) (after s (CallEvent 0 now op)))
+ask_named p s now (ask.Refused name) steps others = others p s
 
 steps_named : (steps : List Step) (p : ℕ) (s : JarState) → named_places (step_items p steps) ≡ call_places p (run s (step_events steps))
 steps_named [] p s = refl
-steps_named (step ∷ steps) p s = asked_named p s step.now (asked step) steps (λ q t. steps_named steps q t)
+steps_named (step ∷ steps) p s = ask_named p s step.now (ask_of step) steps (λ q t. steps_named steps q t)
 
-first_named : (now : ℕ) (r : Result Op RefusalName) (steps : List Step)
+first_named : (now : ℕ) (r : Ask) (steps : List Step)
     → named_places (item_of 1 r ∷ step_items (next_place 1 r + 1) steps)
     ≡ call_places 1 (run opening (call_events now r ++ (JarEvent (Whole run_start) ∷ step_events steps)))
-first_named now (Ok op) steps = ap (λ ps. 1 ∷ ps) (steps_named steps 3 (after (after opening (CallEvent 0 now op)) (JarEvent (Whole run_start))))
-first_named now (Err name) steps = steps_named steps 2 (after opening (JarEvent (Whole run_start)))
+first_named now (ask.Op op) steps = ap (λ ps. 1 ∷ ps) (steps_named steps 3 (after (after opening (CallEvent 0 now op)) (JarEvent (Whole run_start))))
+first_named now (ask.Refused name) steps = steps_named steps 2 (after opening (JarEvent (Whole run_start)))
 
 pub calls_named : ItemsNameTheCalls
 calls_named [] = refl
-calls_named (step ∷ steps) = first_named step.now (asked step) steps
+calls_named (step ∷ steps) = first_named step.now (ask_of step) steps

@@ -1,8 +1,7 @@
 -- How a run goes on.
-use Rattle.std.proofs.Common.{◌≡◌, ◌≤◌, ℕ, suc, ◌+◌, List, [], ◌∷◌, ◌++◌, length, refl, ap, sym, ◌∙◌, arith, append_assoc, length-append, Result, Ok, Err, ◌⊎◌, inl, inr}
-use Rattle.std.specs.Prelude.{fold, IsOk}
+use Rattle.std.proofs.Common.{◌≡◌, ◌≤◌, ℕ, suc, ◌+◌, List, [], ◌∷◌, ◌++◌, length, refl, ap, sym, ◌∙◌, arith, append_assoc, length-append}
+use Rattle.std.specs.Prelude.{fold}
 use Rattle.std.proofs.lemmas.List.Sums.{fold-append}
-use Rattle.jar_types.specs.declared.op.Op.{Op}
 use Rattle.jar_types.specs.declared.entry.Own.TheVariants.{Whole}
 use Rattle.jar_types.specs.declared.entry.Event.{Event}
 use Rattle.jar_types.specs.declared.entry.Event.TheVariants.{Call as CallEvent, Jar as JarEvent}
@@ -10,14 +9,12 @@ use Rattle.jar_types.specs.declared.entry.Entry.{Entry}
 use Rattle.jar_types.specs.States.{JarState}
 use Rattle.jar_types.specs.Steps.{after, entry_of}
 use Rattle.jar_types.specs.Journals.{run}
-use Rattle.set_cookie_line.specs.declared.line.LineRefusal.{LineRefusal}
-use Rattle.set_cookie_line.specs.declared.line.LineRefusal.TheVariants.{NoMemory}
-use Rattle.set_cookie_line.specs.Line.{read}
-use Rattle.site_match.specs.declared.place.Place.{Place}
 use Rattle.script_run.specs.declared.step.Step.{Step}
 use Rattle.script_run.specs.declared.item.Item.{Item}
-use Rattle.script_run.specs.declared.item.RefusalName.{RefusalName}
-use Rattle.script_run.specs.Serial.{asked, set_asked, refusal_name, call_events, step_events, item_of, next_place, step_items}
+use Rattle.script_run.specs.declared.ask.Ask.{Ask}
+use Rattle.script_run.specs.declared.ask.Ask.TheVariants as ask
+use Rattle.script_run.specs.Ask.{ask_of}
+use Rattle.script_run.specs.Serial.{call_events, step_events, item_of, next_place, step_items}
 use Rattle.script_run.specs.Rounds.{Continues}
 
 -- a run that went on by these steps, each of which made one entry at most
@@ -29,17 +26,17 @@ pub record Gone (s₀ : JarState) (j₀ : List Entry) (is₀ : List Item) (steps
 step_events-append : (xs ys : List Step) → step_events (xs ++ ys) ≡ step_events xs ++ step_events ys
 step_events-append [] ys = refl
 step_events-append (x ∷ xs) ys =
-    let vs = call_events x.now (asked x) in
+    let vs = call_events x.now (ask_of x) in
     ap (λ ws. vs ++ ws) (step_events-append xs ys) ∙ sym (append_assoc vs (step_events xs) (step_events ys))
 
-next_place-is : (p now : ℕ) (a : Result Op RefusalName) → next_place p a ≡ p + length (call_events now a)
-next_place-is p now (Ok op) = refl
-next_place-is p now (Err name) = omega arith
+next_place-is : (p now : ℕ) (a : Ask) → next_place p a ≡ p + length (call_events now a)
+next_place-is p now (ask.Op op) = refl
+next_place-is p now (ask.Refused name) = omega arith
 
 step_items-append : (p : ℕ) (xs ys : List Step) → step_items p (xs ++ ys) ≡ step_items p xs ++ step_items (p + length (step_events xs)) ys
 step_items-append p [] ys = ap (λ n. step_items n ys) (omega arith)
 step_items-append p (x ∷ xs) ys =
-    let a = asked x in
+    let a = ask_of x in
     let q = next_place p a in
     let vs = call_events x.now a in
     let there : q + length (step_events xs) ≡ p + length (vs ++ step_events xs) = omega (arith, next_place-is p x.now a, length-append vs (step_events xs)) in
@@ -74,26 +71,19 @@ entries-fold s [] = omega arith
 entries-fold s (CallEvent caller now op ∷ vs) = entries-fold (after s (CallEvent caller now op)) vs ∙ omega arith
 entries-fold s (JarEvent (Whole now) ∷ vs) = entries-fold (after s (JarEvent (Whole now))) vs ∙ omega arith
 
-one-at-most : (now : ℕ) (a : Result Op RefusalName) → length (call_events now a ++ []) ≤ 1
-one-at-most now (Ok op) = omega arith
-one-at-most now (Err name) = omega arith
+one-at-most : (now : ℕ) (a : Ask) → length (call_events now a ++ []) ≤ 1
+one-at-most now (ask.Op op) = omega arith
+one-at-most now (ask.Refused name) = omega arith
 
 -- one more step
 pub gone-more : {s₀ : JarState} {j₀ : List Entry} {is₀ : List Item} {xs : List Step} {s : JarState} {j : List Entry} {is : List Item} {s' : JarState} {j' : List Entry} {is' : List Item} (n : ℕ) (x : Step)
     → Gone s₀ j₀ is₀ xs s j is n → Continues s j is (x ∷ []) s' j' is' → Gone s₀ j₀ is₀ (xs ++ x ∷ []) s' j' is' (n + 1)
 gone-more {xs = xs} {s = s} {j = j} n x gone c =
     let vs = step_events (x ∷ []) in
-    let most : length vs ≤ 1 = one-at-most x.now (asked x) in
+    let most : length vs ≤ 1 = one-at-most x.now (ask_of x) in
     let entries = ap (λ (y : JarState). y.entries) c.state ∙ entries-fold s vs in
     let longer = ap length c.journal ∙ length-append j (run s vs) in record {
       continues = continues-append xs (x ∷ []) gone.continues c;
       entries = omega (arith, entries, most, gone.entries);
       length = omega (arith, longer, length-run s vs, most, gone.length);
     }
-
--- a line that is refused
-pub refused-line : (place : Place) (now : ℕ) (text told : List ℕ) (refusal : LineRefusal) (name : RefusalName)
-    → told ≡ text → (read told ≡ Err refusal) ⊎ ((refusal ≡ NoMemory) × IsOk (read told)) → (refusal ≡ NoMemory → ⊥) → name ≡ refusal_name refusal
-    → Err name ≡ set_asked place now (read text)
-refused-line place now text told refusal name same (inl e) sure n = rw (sym same, e, n) refl
-refused-line place now text told refusal name same (inr p) sure n = absurd (sure p.0)

@@ -2,6 +2,7 @@ pub mod BareLines
 pub mod Form
 pub mod Drafts
 pub mod Reports
+pub mod Ask
 pub mod Serial
 pub mod Legal
 pub mod Rounds

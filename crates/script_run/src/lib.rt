@@ -1,6 +1,7 @@
 //! Scripts of one fetch, from the bytes of a script to those of its report.
 #![tactic(auto)]
 
+mod ask;
 mod bare_line;
 mod cookie_json;
 mod draft;

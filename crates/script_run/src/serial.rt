@@ -2,107 +2,19 @@
 
 ghost use Rattle.std.specs.Prelude.{◌≡◌, ◌++◌, ◌∷◌, [], ◌<◌, ◌≤◌, ◌-◌, ◌^◌, true, false, ◌+◌, Ok, Err, IfOk, OnOk, length};
 ghost use Rattle.jar_types.specs.Steps.{after, entry_of, may_come};
-ghost use Rattle.script_run.specs.Serial as spec;
 ghost use Rattle.script_run.specs.Serial.{run_start, serial_items, serial_journal};
 ghost use Rattle.script_run.specs.Rounds.{Continues};
 ghost use Rattle.script_run.specs.declared.item.Item.TheVariants.{At};
-ghost use Rattle.set_cookie_line.specs.Line.{read};
-ghost use Rattle.set_cookie_line.specs.declared.line.LineRefusal.TheVariants.{NoMemory as WantOfMemory};
 ghost use Rattle.jar_types.specs.declared.entry.Event.TheVariants.{Jar as JarEvent};
 ghost use Rattle.jar_types.specs.declared.entry.Own.TheVariants.{Whole};
 ghost use Rattle.script_run.specs.declared.step.TheConstants.{MOST_STEPS};
 
-use crate::item::{Item, RefusalName};
+use crate::ask::{Ask, ask_of};
+use crate::item::Item;
 use crate::report::Report;
-use crate::step::{Step, What};
-use jar_types::{
-    Context, Cookie, CoreRefusal, Event, JarCore, Journal, Moment, NoMemory, Op, Own, Priority,
-    Request, SameSite, Text, Texts,
-};
-use set_cookie_line::{LineRefusal, read_line};
-use site_match::{Place, default_path};
+use crate::step::Step;
+use jar_types::{CoreRefusal, Event, JarCore, Journal, Moment, NoMemory, Own, Texts};
 use std::alloc::Global;
-
-/// The cookie of a set.
-fn cookie_of(alloc: Global, step: &Step, name: &Text, value: &Text) -> Result<Cookie, NoMemory>
-    ensures { IfOk result (λ c. c
-        ≡ spec.cookie_of step.entry.now.place name.now value.now step.entry.now.now) }
-{
-    Ok(Cookie {
-        key: step.place.key.copy(alloc)?,
-        host: step.place.host.copy(alloc)?,
-        name: name.copy(alloc)?,
-        path: Text::of(alloc, default_path(step.place.path.as_str()))?,
-        value: value.copy(alloc)?,
-        creation: step.now,
-        access: step.now,
-        expiry: None,
-        secure: false,
-        http_only: false,
-        same_site: SameSite::Unspecified,
-        priority: Priority::Medium,
-    })
-}
-
-/// The op of a set.
-fn set_op(alloc: Global, step: &Step, name: &Text, value: &Text) -> Result<Op, NoMemory>
-    ensures { IfOk result (λ op. op
-        ≡ spec.set_op step.entry.now.place name.now value.now step.entry.now.now) }
-{
-    Ok(Op::Set {
-        cookie: cookie_of(alloc, step, name, value)?,
-        script: false,
-        secure: step.place.scheme.is_secure(),
-    })
-}
-
-/// The request of a get.
-fn request_of(alloc: Global, place: &Place) -> Result<Request, NoMemory>
-    ensures { IfOk result (λ q. q ≡ spec.request_of place.entry.now) }
-{
-    Ok(Request {
-        key: place.key.copy(alloc)?,
-        host: place.host.copy(alloc)?,
-        path: place.path.copy(alloc)?,
-        secure: place.scheme.is_secure(),
-        script: false,
-        context: Context::Strict,
-    })
-}
-
-/// The name of a line's refusal.
-fn refusal_name(refusal: LineRefusal) -> Result<RefusalName, NoMemory>
-    ensures value { IfOk result (λ name. name ≡ spec.refusal_name refusal) }
-    ensures sure { IfOk result (λ name. refusal ≡ WantOfMemory → ⊥) }
-{
-    match refusal {
-        LineRefusal::Control => Ok(RefusalName::Control),
-        LineRefusal::Empty => Ok(RefusalName::Empty),
-        LineRefusal::TooLong => Ok(RefusalName::TooLong),
-        LineRefusal::NoMemory => Err(NoMemory),
-    }
-}
-
-/// What a set of this line asks.
-fn set_asked(alloc: Global, step: &Step, line: &Text) -> Result<Result<Op, RefusalName>, NoMemory>
-    ensures { IfOk result (λ asked. asked
-        ≡ spec.set_asked step.entry.now.place step.entry.now.now (read line.now)) }
-{
-    match read_line(alloc, line.as_str()) {
-        Ok(read) => Ok(Ok(set_op(alloc, step, &read.name, &read.value)?)),
-        Err(refusal) => Ok(Err(refusal_name(refusal)?)),
-    }
-}
-
-/// What a step asks.
-fn asked(alloc: Global, step: &Step) -> Result<Result<Op, RefusalName>, NoMemory>
-    ensures { IfOk result (λ asked. asked ≡ spec.asked step.entry.now) }
-{
-    match &step.what {
-        What::Set { line } => set_asked(alloc, step, line),
-        What::Get => Ok(Ok(Op::Get(request_of(alloc, &step.place)?))),
-    }
-}
 
 /// Adds the entry of an event to the journal, and the core takes its step.
 #[tactic(auto, using(jar_types::proofs::JournalLemmas::event_back))]
@@ -164,8 +76,8 @@ fn try_step<C: JarCore>(
     ensures { OnOk result (Continues (C.state core.old) journal.old.list items.old.items
         (step.entry.now ∷ []) (C.state core.new) journal.new.list items.new.items) }
 {
-    match asked(alloc, step)? {
-        Ok(op) => {
+    match ask_of(alloc, step)? {
+        Ask::Op(op) => {
             let event = Event::Call {
                 caller: 0,
                 now: step.now,
@@ -173,7 +85,7 @@ fn try_step<C: JarCore>(
             };
             call(alloc, core, journal, items, &event)
         }
-        Err(name) => {
+        Ask::Refused(name) => {
             items.push(Item::Refused(name))?;
             Ok(())
         }

@@ -1,5 +1,5 @@
-use Rattle.script_run.proofs.SerialLemmas.{refused-line}
-use Rattle.script_run.proofs.serial.set_asked.Goals as goal
+use Rattle.script_run.proofs.AskLemmas.{refused-line}
+use Rattle.script_run.proofs.ask.ask_of_line.Goals as goal
 
 pub returns-in_ok-refusal_name-in-Err : goal.returns-in_ok-refusal_name-in-Err
 returns-in_ok-refusal_name-in-Err c =
