@@ -1,7 +1,7 @@
 -- What was seen begins the history, and a look fits as the history and the words grow.
-use Rattle.std.proofs.Common.{◌≡◌, ◌≤◌, ◌+◌, ℕ, List, [], ◌∷◌, ◌++◌, length, take, ltb, refl, sym, ap, ◌∙◌, subst, arith, length-append, append_assoc, append-nil, Option, Some, None}
+use Rattle.std.proofs.Common.{◌≡◌, ◌≤◌, ◌+◌, ℕ, List, [], ◌∷◌, ◌++◌, length, take, drop, ltb, refl, sym, ap, ◌∙◌, subst, arith, length-append, append_assoc, append-nil, Option, Some, None}
 use Rattle.std.specs.Prelude.{slice_index}
-use Rattle.std.proofs.lemmas.List.{take-append-le}
+use Rattle.std.proofs.lemmas.List.{take-append-le, take-append-drop}
 use Rattle.std.proofs.lemmas.Bool.{cond_both, ltb-true, ltb-false}
 use Rattle.version_cells.specs.declared.entry.Entry.{Entry}
 use Rattle.version_cells.specs.declared.view.Look.{Look}
@@ -19,6 +19,14 @@ starts_itself a = ([], sym (append-nil a))
 
 pub starts_length : (a b : List Entry) → StartsWith a b → length b ≤ length a
 starts_length a b s = let e = ap length s.1 ∙ length-append b s.0 in omega arith
+
+-- of a list and one that begins it the first items are the same, as far as that one goes
+pub begun_take : (n : ℕ) (log seen : List Entry) → StartsWith log seen → n ≤ length seen → take n log ≡ take n seen
+begun_take n log seen s h = ap (λ (l : List Entry). take n l) s.1 ∙ take-append-le n seen s.0 h
+
+-- a list begins with its first items
+pub starts_take : (n : ℕ) (log : List Entry) → StartsWith log (take n log)
+starts_take n log = (drop n log, sym (take-append-drop n log))
 
 pub starts_turns : (c : ℕ) (a b : List Entry) → StartsWith a b → turns c b ≤ turns c a
 starts_turns c a b s = let f : Entry → ℕ = λ e. one (has c (cells_of e)) in

@@ -6,3 +6,4 @@ pub mod Held
 pub mod Rule
 pub mod Told
 pub mod Standing
+pub mod Answered

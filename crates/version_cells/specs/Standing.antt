@@ -1,4 +1,4 @@
--- What a contract sees of a baton and of a pass.
+-- What a contract sees of the baton and of a pass.
 -- This jar's own rule: docs/DEFINITIONS.md.
 use Rattle.std.specs.Prelude.{ℕ, zero, suc, List, [], ◌∷◌, ◌++◌, Option}
 use Rattle.atomic_table.specs.Seated.{TableId}
@@ -7,12 +7,12 @@ use Rattle.version_cells.specs.declared.view.View.{View}
 use Rattle.version_cells.specs.Views.{first_baton, new_pass}
 use Rattle.version_cells.specs.Moves.{after_commit}
 
--- The table that a seat goes to, and what it knows
+-- The baton: the table that it goes to, and what it knows
 pub record Standing : Type 0 where
   pub table : TableId
   pub view : View
 
--- the same seat with another view
+-- the baton with another view
 abbrev pub with_view : Standing → View → Standing
 with_view s v = record s { view = v }
 
@@ -24,12 +24,27 @@ with_entry s e = with_view s (after_commit s.view e)
 abbrev pub new_baton : TableId → ℕ → Standing
 new_baton t n = record { table = t; view = record first_baton { next = n } }
 
+-- A pass: the table that it goes to, what it knows, and its front, the history up to and with the
+-- entry of its last answered call
+pub record PassStanding : Type 0 where
+  pub table : TableId
+  pub view : View
+  pub front : List Entry
+
+-- the pass with another view, and the front that it had
+abbrev pub pass_with_view : PassStanding → View → PassStanding
+pass_with_view s v = record s { view = v }
+
+-- the pass, once its call is answered: its front is all that it has seen
+abbrev pub with_answer : PassStanding → PassStanding
+with_answer s = record s { front = s.view.own.seen }
+
 -- a pass when it is made
-abbrev pub new_standing : TableId → ℕ → Standing
-new_standing t n = record { table = t; view = new_pass n }
+abbrev pub new_standing : TableId → ℕ → PassStanding
+new_standing t n = record { table = t; view = new_pass n; front = [] }
 
 -- the passes of the first n numbers, in their order
-abbrev pub new_passes : TableId → ℕ → List Standing
+abbrev pub new_passes : TableId → ℕ → List PassStanding
 new_passes t zero = []
 new_passes t (suc n) = new_passes t n ++ new_standing t n ∷ []
 

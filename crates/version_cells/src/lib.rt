@@ -1,6 +1,7 @@
 //! Version words under one rule: the baton that commits, the passes that look, and their permits.
 #![tactic(auto)]
 
+mod answer;
 mod baton;
 mod bump;
 mod cells;

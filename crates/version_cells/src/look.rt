@@ -3,7 +3,7 @@
 ghost use Rattle.std.specs.Prelude.{◌≡◌, ◌≤◌};
 ghost use Rattle.version_cells.specs.Entries.{IsCell, turns};
 ghost use Rattle.version_cells.specs.Moves.{after_look};
-ghost use Rattle.version_cells.specs.Standing.{with_view};
+ghost use Rattle.version_cells.specs.Standing.{pass_with_view};
 
 use crate::cells::Cells;
 use crate::pass::Pass;
@@ -30,7 +30,7 @@ impl Cells {
     pub fn look(&self, pass: &mut Pass, cell: u32) -> u64
         requires same { pass.old.table ≡ self.now }
         requires cell { IsCell cell }
-        ensures noted { pass.new ≡ with_view pass.old (after_look pass.old.view cell result) }
+        ensures noted { pass.new ≡ pass_with_view pass.old (after_look pass.old.view cell result) }
         ensures never_back { turns cell pass.old.view.own.seen ≤ result }
     {
         let found = self

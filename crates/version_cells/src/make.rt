@@ -95,6 +95,8 @@ impl Cells {
             seat,
             caller: number,
             looks: 0,
+            seen: 0,
+            front: 0,
         }
     }
 }

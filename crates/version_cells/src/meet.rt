@@ -2,7 +2,7 @@
 
 ghost use Rattle.std.specs.Prelude.{◌≡◌};
 ghost use Rattle.version_cells.specs.Told.{ComesHome, Met};
-ghost use Rattle.version_cells.specs.Standing.{with_view};
+ghost use Rattle.version_cells.specs.Standing.{with_view, pass_with_view};
 
 use crate::baton::Baton;
 use crate::cells::Cells;
@@ -18,7 +18,7 @@ impl Cells {
     pub fn meet(&self, pass: &mut Pass, baton: &mut Baton)
         requires same { (pass.old.table ≡ self.now) × (baton.old.table ≡ self.now) }
         requires home { ComesHome pass.old.view.number pass.old.view.away baton.old.view.permit }
-        ensures pass { pass.new ≡ with_view pass.old pass.new.view }
+        ensures pass { pass.new ≡ pass_with_view pass.old pass.new.view }
         ensures baton { baton.new ≡ with_view baton.old baton.new.view }
         ensures met { Met pass.old.view baton.old.view pass.new.view baton.new.view }
     {
@@ -26,7 +26,8 @@ impl Cells {
         self.table
             .shared
             .join_seat::<PassTakes>(&mut pass.seat, copy);
-        self.table.shared.load::<Fronts>(&mut pass.seat, 0);
+        let found = self.table.shared.load::<Fronts>(&mut pass.seat, 0);
+        pass.seen = found;
         let note = self.table.shared.split_seat::<PassCopies>(&mut pass.seat);
         self.table
             .shared

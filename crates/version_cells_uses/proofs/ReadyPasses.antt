@@ -12,7 +12,7 @@ new_passes_ready t zero i d h = absurd (omega arith)
 new_passes_ready t (suc n) i d h = ⊎_elim
     (λ (l : i < length (new_passes t n)). subst (IsReady t) (sym (get_or_append_left (new_passes t n) (new_standing t n ∷ []) d i l)) (new_passes_ready t n i d l))
     (λ (g : length (new_passes t n) ≤ i). let e = length-append (new_passes t n) (new_standing t n ∷ []) in
-    subst (IsReady t) (sym (get_or_push (new_passes t n) (new_standing t n) d i (omega arith))) (refl, refl, refl))
+    subst (IsReady t) (sym (get_or_push (new_passes t n) (new_standing t n) d i (omega arith))) ((refl, refl, refl), refl))
     (cases_lt i (length (new_passes t n)))
 
 pub length_new_passes : (t : TableId) (n : ℕ) → length (new_passes t n) ≡ n

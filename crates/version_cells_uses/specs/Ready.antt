@@ -3,7 +3,7 @@
 use Rattle.std.specs.Prelude.{◌≡◌, ◌<◌, ◌-◌, ◌+◌, ◌^◌, ℕ, List, [], length, slice_index_or, false, None}
 use Rattle.atomic_table.specs.Seated.{TableId}
 use Rattle.version_cells.specs.Entries.{IsCell, owned}
-use Rattle.version_cells.specs.Standing.{Standing}
+use Rattle.version_cells.specs.Standing.{Standing, PassStanding}
 
 -- the identity that stands for no table
 abbrev pub no_table : TableId
@@ -19,20 +19,24 @@ HasRoom s = length s.view.own.seen < 2 ^ 63 - 1
 
 -- The pass goes to this table, its permit is at home, and each entry of its own that it has seen
 -- counts once among its calls
-abbrev pub IsReady : TableId → Standing → Type 0
-IsReady t s =
+abbrev pub IsHome : TableId → PassStanding → Type 0
+IsHome t s =
     (s.table ≡ t) × (s.view.away ≡ false) × (owned s.view.number s.view.own.seen ≡ s.view.calls)
 
+-- it is home, and its front has all entries of its own, so each call of it was answered
+abbrev pub IsReady : TableId → PassStanding → Type 0
+IsReady t s = IsHome t s × (owned s.view.number s.front ≡ s.view.calls)
+
 -- baton and pass may serve a call that moves this cell
-abbrev pub MayCall : TableId → Standing → Standing → ℕ → Type 0
+abbrev pub MayCall : TableId → Standing → PassStanding → ℕ → Type 0
 MayCall t baton pass cell = IsFree t baton × HasRoom baton × IsReady t pass × IsCell cell
 
 -- each of these passes is ready
-abbrev pub AllReady : TableId → List Standing → Type 0
+abbrev pub AllReady : TableId → List PassStanding → Type 0
 AllReady t passes =
-    (i : ℕ) (d : Standing) → i < length passes → IsReady t (slice_index_or passes i d)
+    (i : ℕ) (d : PassStanding) → i < length passes → IsReady t (slice_index_or passes i d)
 
 -- the pass keeps its number, and its calls rose by this many
-abbrev pub HasCounted : Standing → Standing → ℕ → Type 0
+abbrev pub HasCounted : PassStanding → PassStanding → ℕ → Type 0
 HasCounted old new more =
     (new.view.number ≡ old.view.number) × (new.view.calls ≡ old.view.calls + more)

@@ -7,12 +7,16 @@ ghost use Rattle.version_cells_uses.specs.Ready.{IsFree, IsReady, MayCall, HasCo
 
 use version_cells::{Baton, Cells, Pass};
 
-/// Commits one entry of the pass's caller that moves one cell, the baton free before and after.
+/// Commits one entry of the pass's caller that moves one cell, and answers the call with it.
+///
+/// The baton is free before and after, and the pass's front is then the whole history.
 pub fn one_call(cells: &Cells, baton: &mut Baton, pass: &mut Pass, cell: u32)
     requires may { MayCall cells.now baton.old pass.old cell }
     ensures ready { IsFree cells.now baton.new × IsReady cells.now pass.new }
     ensures added { baton.new.view.own.seen
         ≡ baton.old.view.own.seen ++ entry_of (cell ∷ []) (Some pass.old.view.number) ∷ [] }
+    ensures answered { (pass.new.front ≡ pass.new.view.own.seen)
+        × (pass.new.view.own.seen ≡ baton.new.view.own.seen) }
     ensures counted { HasCounted pass.old pass.new 1 }
     ensures covered { CoversLook baton.old.view pass.old.view.own.last }
 {
@@ -21,4 +25,5 @@ pub fn one_call(cells: &Cells, baton: &mut Baton, pass: &mut Pass, cell: u32)
     cells.bump(baton, cell);
     cells.commit(baton, Some(caller), &[cell]);
     cells.meet(pass, baton);
+    cells.answered(pass);
 }

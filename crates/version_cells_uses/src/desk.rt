@@ -42,6 +42,7 @@ impl<N: Name> Desk<N> {
     pub fn call(&mut self, cells: &Cells, pass: &mut Pass, cell: u32) -> bool
         requires may { (cells.now ≡ N.table) × IsReady N.table pass.old × IsCell cell }
         ensures pass { IsReady N.table pass.new }
+        ensures answered { result ≡ true → pass.new.front ≡ pass.new.view.own.seen }
         ensures counted { result ≡ true → HasCounted pass.old pass.new 1 }
         ensures refused { result ≡ false → (LIMIT ≤ self.old.entries) × (pass.new ≡ pass.old) }
     {

@@ -1,17 +1,20 @@
 //! A permit that is lent for several commits.
 
 ghost use Rattle.std.specs.Prelude.{◌≡◌, ◌<◌, ◌-◌, ◌^◌, ◌+◌, length};
-ghost use Rattle.version_cells_uses.specs.Ready.{IsFree, IsReady, MayCall, HasCounted};
+ghost use Rattle.version_cells_uses.specs.Ready.{IsFree, IsHome, MayCall, HasCounted};
 
 use version_cells::{Baton, Cells, Pass};
 
 /// Commits two entries of the pass's caller and one of nobody while its permit is lent.
+///
+/// No call is answered by them, so the pass's front stays.
 pub fn three_entries(cells: &Cells, baton: &mut Baton, pass: &mut Pass, cell: u32)
     requires may { MayCall cells.now baton.old pass.old cell }
     requires room { length baton.old.view.own.seen < 2 ^ 63 - 3 }
-    ensures ready { IsFree cells.now baton.new × IsReady cells.now pass.new }
+    ensures home { IsFree cells.now baton.new × IsHome cells.now pass.new }
     ensures longer { length baton.new.view.own.seen ≡ length baton.old.view.own.seen + 3 }
     ensures counted { HasCounted pass.old pass.new 2 }
+    ensures front { pass.new.front ≡ pass.old.front }
 {
     let caller = pass.caller();
     cells.lend(pass, baton);

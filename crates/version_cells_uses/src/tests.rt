@@ -24,11 +24,12 @@ fn two_passes_see_both_cells_of_an_entry(rt: HostRuntime) -> Result<(), Fail> {
         first == 1 && second == 1 && other == 0,
         "{first} {second} {other}"
     );
-    assert!(rt; cutter.caller() == 2 && cutter.looks() == 1);
+    assert!(rt; cutter.caller() == 2 && cutter.looks() == 1 && cutter.front() == 0);
     Ok(())
 }
 
-// The cell was moved once by the first call and twice under the lent permit.
+// The cell was moved once by the first call and twice under the lent permit; the front ends with
+// the call that was answered.
 #[test]
 fn a_permit_comes_home_through_several_commits(rt: HostRuntime) -> Result<(), Fail> {
     let Ok(made) = Cells::make(rt.alloc(), 1) else {
@@ -43,11 +44,13 @@ fn a_permit_comes_home_through_several_commits(rt: HostRuntime) -> Result<(), Fa
     one_call(&cells, &mut baton, &mut cutter, 4096);
     three_entries(&cells, &mut baton, &mut cutter, 4096);
     let found = cells.look(&mut cutter, 4096);
-    assert!(rt; found == 3, "{found}");
+    let front = cutter.front();
+    assert!(rt; found == 3 && front == 1, "{found} {front}");
     Ok(())
 }
 
-// Three callers with two calls each: six entries move the cell, and each pass looked twice.
+// Three callers with two calls each: six entries move the cell, and each pass looked twice. Each
+// front ends with the pass's own last entry, so no two are as long, and the longest has all six.
 #[test]
 fn each_entry_of_three_threads_counts_once(rt: HostRuntime) -> Result<(), Fail> {
     let Ok(called) = each_calls(&rt, rt.alloc(), 3) else {
@@ -64,5 +67,13 @@ fn each_entry_of_three_threads_counts_once(rt: HostRuntime) -> Result<(), Fail> 
         looks = looks.saturating_add(pass.looks());
     }
     assert!(rt; found == 6 && looks == 6, "{found} {looks}");
+    let [first, second, third] = passes.as_slice() else {
+        panic!(rt; "not three passes")
+    };
+    let (a, b, c) = (first.front(), second.front(), third.front());
+    assert!(rt;
+        a != b && b != c && c != a && a.max(b).max(c) == 6,
+        "{a} {b} {c}"
+    );
     Ok(())
 }

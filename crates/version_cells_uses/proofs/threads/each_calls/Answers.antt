@@ -1,5 +1,5 @@
 use Rattle.std.proofs.Common.{◌≡◌, List, length, sym, ap, ◌∙◌, subst}
-use Rattle.version_cells.specs.Standing.{Standing}
+use Rattle.version_cells.specs.Standing.{PassStanding}
 use Rattle.version_cells.specs.Standing.{new_passes}
 use Rattle.version_cells_uses.specs.Ready.{AllReady}
 use Rattle.version_cells_uses.proofs.ReadyPasses.{new_passes_ready, length_new_passes, same_length}
@@ -15,7 +15,7 @@ pub returns-clause-all : goal.returns-clause-all
 returns-clause-all g c =
     let cells = c.in_ok-cells.field-0.cells in
     let made = length_new_passes cells c.args.callers in
-    let was = ap (λ (l : List Standing). length l) c.in_ok-cells.ensures.passes in
-    let slice = ap (λ (l : List Standing). length l) c.as_mut_slice.ensures.value in
+    let was = ap (λ (l : List PassStanding). length l) c.in_ok-cells.ensures.passes in
+    let slice = ap (λ (l : List PassStanding). length l) c.as_mut_slice.ensures.value in
     let kept = c.each_named.auto.passes in
     same_length _ c.each_named.new.passes _ (kept ∙ c.as_mut_slice.ensures.len) ∙ kept ∙ slice ∙ was ∙ made

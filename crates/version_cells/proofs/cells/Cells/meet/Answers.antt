@@ -1,10 +1,13 @@
-use Rattle.std.proofs.Common.{◌-◌, ◌^◌, ℕ, List, length, min, sym, ap, ◌∙◌, arith, subst}
+use Rattle.std.proofs.Common.{◌≡◌, ◌-◌, ◌^◌, ℕ, List, length, min, take, sym, ap, ◌∙◌, arith, subst}
 use Rattle.atomic_table.specs.Table.{Me}
+use Rattle.version_cells.specs.declared.entry.Entry.{Entry}
 use Rattle.version_cells.specs.declared.view.Look.{Look}
 use Rattle.version_cells.specs.declared.view.View.{View}
 use Rattle.version_cells.specs.Moves.{without_permit, pass_copy, baton_with_copy, pass_with_copy}
-use Rattle.version_cells.specs.Standing.{Standing}
+use Rattle.version_cells.specs.Standing.{Standing, PassStanding}
 use Rattle.version_cells.specs.Told.{ComesHome, Met}
+use Rattle.version_cells.specs.Answered.{IsFront}
+use Rattle.version_cells.proofs.Prefixes.{starts_length, begun_take}
 use Rattle.version_cells.proofs.Fronting.{fronts, baton_counts}
 use Rattle.version_cells.proofs.Cuts.{gives_permit, copies_pass}
 use Rattle.version_cells.proofs.Meeting.{baton_takes_as, pass_takes_as, may_take_one, own_home, meets}
@@ -19,41 +22,41 @@ split_seat-copy-requires c = (
 
 pub join_seat-requires : goal.join_seat-requires
 join_seat-requires c = (
-  ap (λ (s : Standing). s.table) c.pass.view_is ∙ c.requires.same.0 ∙ sym c.self.view_is,
+  ap (λ (s : PassStanding). s.table) c.pass.view_is ∙ c.requires.same.0 ∙ sym c.self.view_is,
   c.split_seat-copy.ensures.3 ∙ ap (λ (s : Standing). s.table) c.baton.view_is ∙ c.requires.same.1 ∙ sym c.self.view_is,
   ap (λ (m : Me ℕ View). m.1) c.split_seat-copy.ensures.4,
   (let w = c.self.invariant in omega arith),
-  pass_takes_as _ _ _ _ _ _ c.pass.invariant.0 c.split_seat-copy.ensures.4
-      (own_home _ _ _ (subst (λ (s : Standing). ComesHome s.view.number s.view.away c.baton.inside.seat.me.0.permit) (sym c.pass.view_is)
+  pass_takes_as _ _ _ _ _ _ c.pass.invariant.1.is_pass c.split_seat-copy.ensures.4
+      (own_home _ _ _ (subst (λ (s : PassStanding). ComesHome s.view.number s.view.away c.baton.inside.seat.me.0.permit) (sym c.pass.view_is)
       (subst (λ (s : Standing). ComesHome c.args.pass.now.view.number c.args.pass.now.view.away s.view.permit) (sym c.baton.view_is) c.requires.home))),
 )
 
-pub load-requires : goal.load-requires
-load-requires c = (
-  c.join_seat.ensures.0 ∙ ap (λ (s : Standing). s.table) c.pass.view_is ∙ c.requires.same.0 ∙ sym c.self.view_is,
+pub load-found-requires : goal.load-found-requires
+load-found-requires c = (
+  c.join_seat.ensures.0 ∙ ap (λ (s : PassStanding). s.table) c.pass.view_is ∙ c.requires.same.0 ∙ sym c.self.view_is,
   (let w = c.self.invariant in omega arith),
-  fronts _ _ _ (ap (λ (m : Me ℕ View). m.0.kind) c.join_seat.ensures.2 ∙ c.pass.invariant.0) (ap (λ (m : Me ℕ View). m.1) c.join_seat.ensures.2 ∙ c.pass.invariant.1),
+  fronts _ _ _ (ap (λ (m : Me ℕ View). m.0.kind) c.join_seat.ensures.2 ∙ c.pass.invariant.1.is_pass) (ap (λ (m : Me ℕ View). m.1) c.join_seat.ensures.2 ∙ c.pass.invariant.0),
 )
 
 pub split_seat-note-requires : goal.split_seat-note-requires
 split_seat-note-requires c = (
-  c.load.ensures.0 ∙ c.join_seat.ensures.0 ∙ ap (λ (s : Standing). s.table) c.pass.view_is ∙ c.requires.same.0 ∙ sym c.self.view_is,
+  c.load-found.ensures.0 ∙ c.join_seat.ensures.0 ∙ ap (λ (s : PassStanding). s.table) c.pass.view_is ∙ c.requires.same.0 ∙ sym c.self.view_is,
   (let w = c.self.invariant in omega arith),
-  copies_pass _ _ (ap (λ (m : Me ℕ View). m.0.kind) c.load.ensures.2.0 ∙ ap (λ (m : Me ℕ View). m.0.kind) c.join_seat.ensures.2 ∙ c.pass.invariant.0),
+  copies_pass _ _ (ap (λ (m : Me ℕ View). m.0.kind) c.load-found.ensures.2.0 ∙ ap (λ (m : Me ℕ View). m.0.kind) c.join_seat.ensures.2 ∙ c.pass.invariant.1.is_pass),
 )
 
 pub join_seat-requires-2 : goal.join_seat-requires-2
 join_seat-requires-2 c = (
   c.split_seat-copy.ensures.0 ∙ ap (λ (s : Standing). s.table) c.baton.view_is ∙ c.requires.same.1 ∙ sym c.self.view_is,
-  c.split_seat-note.ensures.3 ∙ c.load.ensures.0 ∙ c.join_seat.ensures.0 ∙ ap (λ (s : Standing). s.table) c.pass.view_is ∙ c.requires.same.0 ∙ sym c.self.view_is,
+  c.split_seat-note.ensures.3 ∙ c.load-found.ensures.0 ∙ c.join_seat.ensures.0 ∙ ap (λ (s : PassStanding). s.table) c.pass.view_is ∙ c.requires.same.0 ∙ sym c.self.view_is,
   ap (λ (m : Me ℕ View). m.1) c.split_seat-note.ensures.4,
   (let w = c.self.invariant in omega arith),
   baton_takes_as _ _ _ _ _ _ (ap (λ (m : Me ℕ View). m.0.kind) c.split_seat-copy.ensures.2 ∙ c.baton.invariant.0) c.split_seat-note.ensures.4
       (may_take_one _ _ (ap (λ (m : Me ℕ View). m.0.permit) c.split_seat-copy.ensures.2)),
 )
 
-pub load-requires-2 : goal.load-requires-2
-load-requires-2 c = (
+pub load-requires : goal.load-requires
+load-requires c = (
   c.join_seat-2.ensures.0 ∙ c.split_seat-copy.ensures.0 ∙ ap (λ (s : Standing). s.table) c.baton.view_is ∙ c.requires.same.1 ∙ sym c.self.view_is,
   (let w = c.self.invariant in omega arith),
   baton_counts _ _ _
@@ -62,33 +65,46 @@ load-requires-2 c = (
 )
 
 -- pass and baton after the meeting
-met_here : (c : goal.After-load-2) → Met c.pass.inside.seat.me.0 c.baton.inside.seat.me.0 c.split_seat-note.new.seat.me.0 c.load-2.new.seat.me.0
+met_here : (c : goal.After-load) → Met c.pass.inside.seat.me.0 c.baton.inside.seat.me.0 c.split_seat-note.new.seat.me.0 c.load.new.seat.me.0
 met_here c =
     let p : View = c.pass.inside.seat.me.0 in let b : View = c.baton.inside.seat.me.0 in
     let front_of = ap (λ (m : Me ℕ View). m.0) c.split_seat-note.ensures.2 in
-    subst (λ (v : View). Met p b c.split_seat-note.new.seat.me.0 v) (ap (λ (m : Me ℕ View). m.0) (sym c.load-2.ensures.2.0))
-    (meets p b c.join_seat.new.seat.me.0 c.split_seat-note.new.seat.me.0 c.join_seat-2.new.seat.me.0 c.load.result
-    (subst (λ (s : Standing). ComesHome s.view.number s.view.away b.permit) (sym c.pass.view_is)
+    subst (λ (v : View). Met p b c.split_seat-note.new.seat.me.0 v) (ap (λ (m : Me ℕ View). m.0) (sym c.load.ensures.2.0))
+    (meets p b c.join_seat.new.seat.me.0 c.split_seat-note.new.seat.me.0 c.join_seat-2.new.seat.me.0 c.load-found.result
+    (subst (λ (s : PassStanding). ComesHome s.view.number s.view.away b.permit) (sym c.pass.view_is)
     (subst (λ (s : Standing). ComesHome c.args.pass.now.view.number c.args.pass.now.view.away s.view.permit) (sym c.baton.view_is) c.requires.home))
     (ap (λ (m : Me ℕ View). m.0) c.join_seat.ensures.2 ∙ ap (λ (m : Me ℕ View). pass_with_copy p m.0) c.split_seat-copy.ensures.4)
-    (front_of ∙ ap (λ (m : Me ℕ View). m.0) c.load.ensures.2.0)
-    c.load.ensures.2.1
+    (front_of ∙ ap (λ (m : Me ℕ View). m.0) c.load-found.ensures.2.0)
+    c.load-found.ensures.2.1
     (ap (λ (m : Me ℕ View). m.0) c.join_seat-2.ensures.2
     ∙ ap (λ (m : Me ℕ View). baton_with_copy m.0 c.split_seat-note.result.me.0) c.split_seat-copy.ensures.2
     ∙ ap (λ (m : Me ℕ View). baton_with_copy (without_permit b) m.0) c.split_seat-note.ensures.4
     ∙ ap (λ (v : View). baton_with_copy (without_permit b) (pass_copy v)) (sym front_of))
-    c.load-2.ensures.2.2)
+    c.load.ensures.2.2)
+
+-- the front is the same first part of what is seen now
+kept_front : (c : goal.After-load) → Met c.pass.inside.seat.me.0 c.baton.inside.seat.me.0 c.split_seat-note.new.seat.me.0 c.load.new.seat.me.0
+    → take c.pass.inside.front c.split_seat-note.new.seat.me.0.own.seen ≡ take c.pass.inside.front c.pass.inside.seat.me.0.own.seen
+kept_front c met = begun_take c.pass.inside.front _ _ met.begins (let b = c.pass.invariant.1.within in let d = c.pass.invariant.1.has_seen in omega arith)
 
 pub invariant_of-pass : goal.invariant_of-pass
 invariant_of-pass c =
-    let met = met_here c in (
-      ap (λ (m : Me ℕ View). m.0.kind) c.split_seat-note.ensures.2 ∙ ap (λ (m : Me ℕ View). m.0.kind) c.load.ensures.2.0 ∙ ap (λ (m : Me ℕ View). m.0.kind) c.join_seat.ensures.2 ∙ c.pass.invariant.0,
-      ap (λ (m : Me ℕ View). m.1) c.split_seat-note.ensures.2 ∙ ap (λ (m : Me ℕ View). m.1) c.load.ensures.2.0,
-      met.number ∙ c.pass.invariant.2,
-      c.pass.invariant.3 ∙ ap (λ (l : List Look). min (length l) (2 ^ 64 - 1)) (sym met.looks),
+    let met = met_here c in
+    let old = c.pass.invariant.1 in
+    let has_found : c.load-found.result ≡ c.split_seat-note.new.seat.me.0.own.found =
+    ap (λ (m : Me ℕ View). m.0.own.found) (sym (c.split_seat-note.ensures.2 ∙ c.load-found.ensures.2.0)) in (
+      ap (λ (m : Me ℕ View). m.1) c.split_seat-note.ensures.2 ∙ ap (λ (m : Me ℕ View). m.1) c.load-found.ensures.2.0,
+      record {
+        is_pass = ap (λ (m : Me ℕ View). m.0.kind) c.split_seat-note.ensures.2 ∙ ap (λ (m : Me ℕ View). m.0.kind) c.load-found.ensures.2.0 ∙ ap (λ (m : Me ℕ View). m.0.kind) c.join_seat.ensures.2 ∙ old.is_pass;
+        numbered = met.number ∙ old.numbered;
+        has_looked = old.has_looked ∙ ap (λ (l : List Look). min (length l) (2 ^ 64 - 1)) (sym met.looks);
+        has_seen = has_found ∙ met.found;
+        within = (let a = starts_length _ _ met.begins in let b = old.within in let d = old.has_seen in let e : c.load-found.result ≡ length c.split_seat-note.new.seat.me.0.own.seen = has_found ∙ met.found in omega arith);
+        is_front = subst (λ (l : List Entry). IsFront c.pass.inside.caller l) (sym (kept_front c met)) old.is_front;
+      },
     )
 
 pub returns-clause-met : goal.returns-clause-met
 returns-clause-met c =
-    subst (λ (s : Standing). Met s.view c.args.baton.now.view c.split_seat-note.new.seat.me.0 c.load-2.new.seat.me.0) c.pass.view_is
-    (subst (λ (s : Standing). Met c.pass.inside.seat.me.0 s.view c.split_seat-note.new.seat.me.0 c.load-2.new.seat.me.0) c.baton.view_is (met_here c))
+    subst (λ (s : PassStanding). Met s.view c.args.baton.now.view c.split_seat-note.new.seat.me.0 c.load.new.seat.me.0) c.pass.view_is
+    (subst (λ (s : Standing). Met c.pass.inside.seat.me.0 s.view c.split_seat-note.new.seat.me.0 c.load.new.seat.me.0) c.baton.view_is (met_here c))
