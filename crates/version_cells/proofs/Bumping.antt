@@ -18,7 +18,7 @@ use Rattle.version_cells.proofs.Steps.{Holding, counted_up}
 turns_le : (c : ℕ) (log : List Entry) → turns c log ≤ length log
 turns_le c log = total_of_ones (λ (e : Entry). has c (cells_of e)) log
 
--- the word of a cell, and one more where it is after_bump
+-- the word of a cell, and one more once it is bumped
 pub fresh_word : (words : List ℕ) (views : List View) (id : ℕ) (v : View) (c : ℕ) → RuleAt words views id v → 0 < c → c ≤ 4096 → has c v.pending ≡ false
     → (slice_index words c ≡ turns c v.own.seen) × ((slice_index words c + 1) % 2 ^ 64 ≡ turns c v.own.seen + 1)
 fresh_word words views id v c k low high fresh =

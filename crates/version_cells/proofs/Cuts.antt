@@ -26,7 +26,7 @@ pass_cut : (words : List ℕ) (views : List View) (seat : ℕ) (b : View) (id : 
     → v.kind ≢ Baton → l.kind ≢ Baton → r.kind ≢ Baton → AllFit words b.own.seen (memories l) → AllFit words b.own.seen (memories r)
     → ((n : ℕ) → pass_count n l + pass_count n r ≡ pass_count n v) → ((n : ℕ) → permit_count n l + permit_count n r ≡ permit_count n v) → ((n : ℕ) → entry_count n l + entry_count n r ≡ entry_count n v)
     → RuleAt words (set views id l ++ r ∷ []) seat b
-pass_cut words views seat b id v l r k at vk lk rk lfit rfit nums toks accs = record {
+pass_cut words views seat b id v l r k at vk lk rk lfit rfit passes_fit permits_fit entries_fit = record {
   at_seat = at_longer (set views id l) (r ∷ []) seat b (other_there views seat b id v l k.at_seat at vk k.is_baton);
   is_baton = k.is_baton;
   only = each_push (λ by (u : View). u.kind ≡ Baton → by ≡ seat) (set views id l) r
@@ -37,9 +37,9 @@ pass_cut words views seat b id v l r k at vk lk rk lfit rfit nums toks accs = re
   versions = k.versions;
   remembered = each_push (λ by (u : View). AllFit words b.own.seen (memories u)) (set views id l) r
       (each_set (λ by (u : View). AllFit words b.own.seen (memories u)) views id l k.remembered lfit) (λ by. rfit);
-  passes = λ n. cut (pass_count n) (k.passes n) (nums n);
-  permits = λ n. cut (permit_count n) (k.permits n) (toks n);
-  entries = λ n. cut (entry_count n) (k.entries n) (accs n);
+  passes = λ n. cut (pass_count n) (k.passes n) (passes_fit n);
+  permits = λ n. cut (permit_count n) (k.permits n) (permits_fit n);
+  entries = λ n. cut (entry_count n) (k.entries n) (entries_fit n);
 }
   where
     sum : (a lf rf vf : ℕ) → lf + rf ≡ vf → a + lf + rf ≡ vf + a
@@ -55,7 +55,7 @@ baton_cut : (words : List ℕ) (views : List View) (id : ℕ) (v : View) (next :
     → ((n : ℕ) → one (nat_lt n v.next) + permit_count n (record v { next = next; permit = p }) + permit_count n r ≡ permit_count n v + one (nat_lt n next))
     → ((n : ℕ) → owned n v.own.seen + entry_count n (record v { next = next; permit = p }) + entry_count n r ≡ entry_count n v + owned n v.own.seen)
     → RuleAt words (set views id (record v { next = next; permit = p }) ++ r ∷ []) id (record v { next = next; permit = p })
-baton_cut words views id v next p r k rk rfit nums toks accs = record {
+baton_cut words views id v next p r k rk rfit passes_fit permits_fit entries_fit = record {
   at_seat = at_longer (set views id l) (r ∷ []) id l (set_here views id l (at_length views id v k.at_seat));
   is_baton = k.is_baton;
   only = each_push (λ by (u : View). u.kind ≡ Baton → by ≡ id) (set views id l) r
@@ -66,9 +66,9 @@ baton_cut words views id v next p r k rk rfit nums toks accs = record {
   versions = k.versions;
   remembered = each_push (λ by (u : View). AllFit words v.own.seen (memories u)) (set views id l) r
       (each_set (λ by (u : View). AllFit words v.own.seen (memories u)) views id l k.remembered (k.remembered id v k.at_seat)) (λ by. rfit);
-  passes = λ n. parts _ _ _ _ _ _ _ _ (total-set (pass_count n) views id v l k.at_seat) (total_push (pass_count n) (set views id l) r) (k.passes n) (nums n);
-  permits = λ n. parts _ _ _ _ _ _ _ _ (total-set (permit_count n) views id v l k.at_seat) (total_push (permit_count n) (set views id l) r) (k.permits n) (toks n);
-  entries = λ n. parts _ _ _ _ _ _ _ _ (total-set (entry_count n) views id v l k.at_seat) (total_push (entry_count n) (set views id l) r) (k.entries n) (accs n);
+  passes = λ n. parts _ _ _ _ _ _ _ _ (total-set (pass_count n) views id v l k.at_seat) (total_push (pass_count n) (set views id l) r) (k.passes n) (passes_fit n);
+  permits = λ n. parts _ _ _ _ _ _ _ _ (total-set (permit_count n) views id v l k.at_seat) (total_push (permit_count n) (set views id l) r) (k.permits n) (permits_fit n);
+  entries = λ n. parts _ _ _ _ _ _ _ _ (total-set (entry_count n) views id v l k.at_seat) (total_push (entry_count n) (set views id l) r) (k.entries n) (entries_fit n);
 }
   where
     l : View

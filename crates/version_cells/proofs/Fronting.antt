@@ -51,11 +51,11 @@ calls_at_home words views seat b id v k at kind home = sym (k.entries n) ∙ alo
     least : (a p t c : ℕ) → a ≡ 1 + p → a ≤ t → t ≡ c → c ≤ 1 → p ≡ 0
     least a p t c h i j l = omega arith
 
-    token : permit_count n v ≡ 1 + one (is_permit_of n v.permit)
-    token = ap (λ t. cond t 0 (pass_count n v) + one (is_permit_of n v.permit)) home ∙ ap (λ t. one t + one (is_permit_of n v.permit)) is_mine
+    own_permit : permit_count n v ≡ 1 + one (is_permit_of n v.permit)
+    own_permit = ap (λ t. cond t 0 (pass_count n v) + one (is_permit_of n v.permit)) home ∙ ap (λ t. one t + one (is_permit_of n v.permit)) is_mine
 
     no_permit : one (is_permit_of n v.permit) ≡ 0
-    no_permit = least _ _ _ _ token (total_at (permit_count n) views id v at) (k.permits n) (few (nat_lt n b.next))
+    no_permit = least _ _ _ _ own_permit (total_at (permit_count n) views id v at) (k.permits n) (few (nat_lt n b.next))
 
     zero_one : (b : Bool) → one b ≡ 0 → b ≡ false
     zero_one true h = absurd (omega arith)
@@ -71,7 +71,7 @@ calls_at_home words views seat b id v k at kind home = sym (k.entries n) ∙ alo
     others : (other : ℕ) (w : View) → other ≢ id → At views other w → entry_count n w ≡ 0
     others other w apart there =
         let p : pass_count n w ≡ 0 = nothing_else _ 0 _ _ _ (two_at (pass_count n) views id other v w at there apart) (subst (λ t. 1 ≤ one t) (sym is_mine) (omega arith)) (k.passes n) (few (nat_lt n b.next)) in
-        let q : permit_count n w ≡ 0 = nothing_else _ 0 _ _ _ (two_at (permit_count n) views id other v w at there apart) (subst (λ t. 1 ≤ t) (sym token) (omega arith)) (k.permits n) (few (nat_lt n b.next)) in
+        let q : permit_count n w ≡ 0 = nothing_else _ 0 _ _ _ (two_at (permit_count n) views id other v w at there apart) (subst (λ t. 1 ≤ t) (sym own_permit) (omega arith)) (k.permits n) (few (nat_lt n b.next)) in
         let r : one (is_permit_of n w.permit) ≡ 0 = second _ _ q in
         ap (λ t. cond t w.calls 0 + cond (is_permit_of n w.permit) (uses_of w.permit) 0) (zero_one (is_pass_of n w) p)
         ∙ ap (λ t. 0 + cond t (uses_of w.permit) 0) (zero_one (is_permit_of n w.permit) r)

@@ -36,7 +36,7 @@ module _ (words : List ℕ) (views : List View) (id other : ℕ) (v w x : View) 
   pass_joined : (seat : ℕ) (b : View) → RuleAt words views seat b → ¬ (other ≡ id) → v.kind ≢ Baton → x.kind ≢ Baton → w.kind ≢ Baton → AllFit words b.own.seen (memories x)
       → ((n : ℕ) → pass_count n x ≡ pass_count n v + pass_count n w) → ((n : ℕ) → permit_count n x ≡ permit_count n v + permit_count n w) → ((n : ℕ) → entry_count n x ≡ entry_count n v + entry_count n w)
       → RuleAt words (set (set views id x) other spent_view) seat b
-  pass_joined seat b k apart vk xk wk fit nums toks accs = record {
+  pass_joined seat b k apart vk xk wk fit passes_fit permits_fit entries_fit = record {
     at_seat = other_there (set views id x) seat b other w spent_view (other_there views seat b id v x k.at_seat at vk k.is_baton) there wk k.is_baton;
     is_baton = k.is_baton;
     only = each_set (λ by (u : View). u.kind ≡ Baton → by ≡ seat) (set views id x) other spent_view
@@ -47,15 +47,15 @@ module _ (words : List ℕ) (views : List View) (id other : ℕ) (v w x : View) 
     versions = k.versions;
     remembered = each_set (λ by (u : View). AllFit words b.own.seen (memories u)) (set views id x) other spent_view
         (each_set (λ by (u : View). AllFit words b.own.seen (memories u)) views id x k.remembered fit) (blank_fits words b.own.seen, tt);
-    passes = λ n. joined (pass_count n) (k.passes n) refl (nums n);
-    permits = λ n. joined (permit_count n) (k.permits n) refl (toks n);
-    entries = λ n. joined (entry_count n) (k.entries n) refl (accs n);
+    passes = λ n. joined (pass_count n) (k.passes n) refl (passes_fit n);
+    permits = λ n. joined (permit_count n) (k.permits n) refl (permits_fit n);
+    entries = λ n. joined (entry_count n) (k.entries n) refl (entries_fit n);
   }
 
   baton_joined : RuleAt words views id v → ¬ (other ≡ id) → x.kind ≡ Baton → w.kind ≢ Baton → x.own.seen ≡ v.own.seen → x.pending ≡ v.pending → x.next ≡ v.next → AllFit words v.own.seen (memories x)
       → ((n : ℕ) → pass_count n x ≡ pass_count n v + pass_count n w) → ((n : ℕ) → permit_count n x ≡ permit_count n v + permit_count n w) → ((n : ℕ) → entry_count n x ≡ entry_count n v + entry_count n w)
       → RuleAt words (set (set views id x) other spent_view) id x
-  baton_joined k apart xk wk seen pend next fit nums toks accs = record {
+  baton_joined k apart xk wk seen pend next fit passes_fit permits_fit entries_fit = record {
     at_seat = set_else (set views id x) other id spent_view (λ e. apart (sym e)) ∙ set_here views id x (at_length views id v at);
     is_baton = xk;
     only = each_set (λ by (u : View). u.kind ≡ Baton → by ≡ id) (set views id x) other spent_view
@@ -67,19 +67,19 @@ module _ (words : List ℕ) (views : List View) (id other : ℕ) (v w x : View) 
     remembered = subst (λ (l : List Entry). (by : ℕ) (u : View) → At (set (set views id x) other spent_view) by u → AllFit words l (memories u)) (sym seen)
         (each_set (λ by (u : View). AllFit words v.own.seen (memories u)) (set views id x) other spent_view
         (each_set (λ by (u : View). AllFit words v.own.seen (memories u)) views id x k.remembered fit) (blank_fits words v.own.seen, tt));
-    passes = λ n. joined (pass_count n) (k.passes n) refl (nums n) ∙ ap (λ m. one (nat_lt n m)) (sym next);
-    permits = λ n. joined (permit_count n) (k.permits n) refl (toks n) ∙ ap (λ m. one (nat_lt n m)) (sym next);
-    entries = λ n. joined (entry_count n) (k.entries n) refl (accs n) ∙ ap (λ (l : List Entry). owned n l) (sym seen);
+    passes = λ n. joined (pass_count n) (k.passes n) refl (passes_fit n) ∙ ap (λ m. one (nat_lt n m)) (sym next);
+    permits = λ n. joined (permit_count n) (k.permits n) refl (permits_fit n) ∙ ap (λ m. one (nat_lt n m)) (sym next);
+    entries = λ n. joined (entry_count n) (k.entries n) refl (entries_fit n) ∙ ap (λ (l : List Entry). owned n l) (sym seen);
   }
 
 copy_no_baton : (m : Memory) (p : Option Permit) → (copy_with m p).kind ≢ Baton
 copy_no_baton m p e = let h : Copy ≡ Baton = e in cc
 
--- of two is_permit_of one at most is there
-took_tokens : (p q : Option Permit) (n : ℕ) → MayTake p q → one (is_permit_of n (either_permit p q)) ≡ one (is_permit_of n p) + one (is_permit_of n q)
-took_tokens None q n h = omega arith
-took_tokens (Some p) None n h = sym (add-zero _)
-took_tokens (Some p) (Some q) n h = absurd h
+-- of two permits one at most is there
+took_permits : (p q : Option Permit) (n : ℕ) → MayTake p q → one (is_permit_of n (either_permit p q)) ≡ one (is_permit_of n p) + one (is_permit_of n q)
+took_permits None q n h = omega arith
+took_permits (Some p) None n h = sym (add-zero _)
+took_permits (Some p) (Some q) n h = absurd h
 
 took_account : (p q : Option Permit) (n : ℕ) → MayTake p q → cond (is_permit_of n (either_permit p q)) (uses_of (either_permit p q)) 0 ≡ cond (is_permit_of n p) (uses_of p) 0 + cond (is_permit_of n q) (uses_of q) 0
 took_account None q n h = omega arith
@@ -100,7 +100,7 @@ baton_takes id other v m p kind may s r at apart there =
       x,
       baton_joined s.words s.views id other v w x at there k apart kind (copy_no_baton m p) refl refl refl (old.0, (his.0, old.1))
           (λ n. sym (add-zero _))
-          (λ n. take_sum _ _ _ _ (took_tokens v.permit p n may))
+          (λ n. take_sum _ _ _ _ (took_permits v.permit p n may))
           (λ n. take_sum _ _ _ _ (took_account v.permit p n may)),
     )
 

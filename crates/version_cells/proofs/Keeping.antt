@@ -36,7 +36,7 @@ pub baton_moves : (words words' : List ℕ) (views : List View) (id : ℕ) (v w 
     → ((n : ℕ) → pass_count n w ≡ pass_count n v) → ((n : ℕ) → permit_count n w ≡ permit_count n v)
     → ((n : ℕ) → entry_count n w + owned n v.own.seen ≡ entry_count n v + owned n w.own.seen)
     → RuleAt words' (set views id w) id w
-baton_moves words words' views id v w k kind size room counted versions grows up fit next nums toks accs = record {
+baton_moves words words' views id v w k kind size room counted versions grows up fit next passes_fit permits_fit entries_fit = record {
   at_seat = set_here views id w (at_length views id v k.at_seat);
   is_baton = kind;
   only = each_set (λ by (u : View). u.kind ≡ Baton → by ≡ id) views id w k.only (λ _. refl);
@@ -47,10 +47,10 @@ baton_moves words words' views id v w k kind size room counted versions grows up
   remembered = each_set (λ by (u : View). AllFit words' w.own.seen (memories u)) views id w
       (λ by u at. all_grow words words' v.own.seen w.own.seen (memories u) grows up (k.remembered by u at)) fit;
   passes = λ n. balance _ _ _ _ _ _ (total-set (pass_count n) views id v w k.at_seat) (k.passes n)
-      (ap (λ x. x + one (nat_lt n v.next)) (nums n) ∙ ap (λ x. pass_count n v + one (nat_lt n x)) (sym next));
+      (ap (λ x. x + one (nat_lt n v.next)) (passes_fit n) ∙ ap (λ x. pass_count n v + one (nat_lt n x)) (sym next));
   permits = λ n. balance _ _ _ _ _ _ (total-set (permit_count n) views id v w k.at_seat) (k.permits n)
-      (ap (λ x. x + one (nat_lt n v.next)) (toks n) ∙ ap (λ x. permit_count n v + one (nat_lt n x)) (sym next));
-  entries = λ n. balance _ _ _ _ _ _ (total-set (entry_count n) views id v w k.at_seat) (k.entries n) (accs n);
+      (ap (λ x. x + one (nat_lt n v.next)) (permits_fit n) ∙ ap (λ x. permit_count n v + one (nat_lt n x)) (sym next));
+  entries = λ n. balance _ _ _ _ _ _ (total-set (entry_count n) views id v w k.at_seat) (k.entries n) (entries_fit n);
 }
 
 pub level : (t u a b o : ℕ) → u + a ≡ t + b → b ≡ a → t ≡ o → u ≡ o
@@ -66,7 +66,7 @@ pub other_moves : (words : List ℕ) (views : List View) (seat : ℕ) (b : View)
     → At views id v → v.kind ≢ Baton → w.kind ≢ Baton → AllFit words b.own.seen (memories w)
     → ((n : ℕ) → pass_count n w ≡ pass_count n v) → ((n : ℕ) → permit_count n w ≡ permit_count n v) → ((n : ℕ) → entry_count n w ≡ entry_count n v)
     → RuleAt words (set views id w) seat b
-other_moves words views seat b id v w k at old new fit nums toks accs = record {
+other_moves words views seat b id v w k at old new fit passes_fit permits_fit entries_fit = record {
   at_seat = other_there views seat b id v w k.at_seat at old k.is_baton;
   is_baton = k.is_baton;
   only = each_set (λ by (u : View). u.kind ≡ Baton → by ≡ seat) views id w k.only (λ e. absurd (new e));
@@ -75,7 +75,7 @@ other_moves words views seat b id v w k at old new fit nums toks accs = record {
   counted = k.counted;
   versions = k.versions;
   remembered = each_set (λ by (u : View). AllFit words b.own.seen (memories u)) views id w k.remembered fit;
-  passes = λ n. level _ _ _ _ _ (total-set (pass_count n) views id v w at) (nums n) (k.passes n);
-  permits = λ n. level _ _ _ _ _ (total-set (permit_count n) views id v w at) (toks n) (k.permits n);
-  entries = λ n. level _ _ _ _ _ (total-set (entry_count n) views id v w at) (accs n) (k.entries n);
+  passes = λ n. level _ _ _ _ _ (total-set (pass_count n) views id v w at) (passes_fit n) (k.passes n);
+  permits = λ n. level _ _ _ _ _ (total-set (permit_count n) views id v w at) (permits_fit n) (k.permits n);
+  entries = λ n. level _ _ _ _ _ (total-set (entry_count n) views id v w at) (entries_fit n) (k.entries n);
 }

@@ -1,4 +1,4 @@
--- The steps of a after_lending and a meeting, at seats whose views are known by equations.
+-- The steps of a lending and of a meeting, at seats whose views are known by equations.
 use Rattle.std.proofs.Common.{◌≡◌, ◌≤◌, ℕ, List, [], ◌∷◌, ◌++◌, length, Bool, false, refl, sym, ap, ◌∙◌, subst, arith, Option, Some, None, length-append, append-nil}
 use Rattle.std.proofs.lemmas.List.{nil_from_length}
 use Rattle.atomic_table.specs.Table.{Me, Joins}

@@ -74,19 +74,19 @@ module _ (words : List ℕ) (views : List View) (seat : ℕ) (b : View) (k : Rul
   numbers : (by n : ℕ) (v : View) → At views by v → IsPassOf n v → n < b.next
   numbers by n v at iv = below n (pass_count n v) (true_one (is_pass_of n v) (is_one n v iv)) (let t = total_at (pass_count n) views by v at in let p = k.passes n in omega arith)
 
-  -- who holds a permit has its token
-  token_of : (n uses : ℕ) (v : View) → v.permit ≡ Some (record { number = n; uses = uses }) → (is_permit_of n v.permit ≡ true)
-  token_of n uses v e = ap (λ (o : Option Permit). is_permit_of n o) e ∙ eq-eqb n n refl
+  -- who holds a permit counts for it
+  permit_is_of : (n uses : ℕ) (v : View) → v.permit ≡ Some (record { number = n; uses = uses }) → (is_permit_of n v.permit ≡ true)
+  permit_is_of n uses v e = ap (λ (o : Option Permit). is_permit_of n o) e ∙ eq-eqb n n refl
 
-  has_token : (n uses : ℕ) (v : View) → v.permit ≡ Some (record { number = n; uses = uses }) → 1 ≤ permit_count n v
-  has_token n uses v e = let t = true_one (is_permit_of n v.permit) (token_of n uses v e) in omega arith
+  counts_permit : (n uses : ℕ) (v : View) → v.permit ≡ Some (record { number = n; uses = uses }) → 1 ≤ permit_count n v
+  counts_permit n uses v e = let t = true_one (is_permit_of n v.permit) (permit_is_of n uses v e) in omega arith
 
   permits_low : (by n uses : ℕ) → Holds views by n uses → n < b.next
-  permits_low by n uses h = below n (permit_count n h.0) (has_token n uses h.0 h.2) (let t = total_at (permit_count n) views by h.0 h.1 in let p = k.permits n in omega arith)
+  permits_low by n uses h = below n (permit_count n h.0) (counts_permit n uses h.0 h.2) (let t = total_at (permit_count n) views by h.0 h.1 in let p = k.permits n in omega arith)
 
   only_one : (by other n uses more : ℕ) → Holds views by n uses → Holds views other n more → other ≡ by
   only_one by other n uses more h g = ⊎_elim (λ (e : other ≡ by). e)
-      (λ (ne : other ≢ by). absurd (too_many _ _ _ _ (has_token n uses h.0 h.2) (has_token n more g.0 g.2)
+      (λ (ne : other ≢ by). absurd (too_many _ _ _ _ (counts_permit n uses h.0 h.2) (counts_permit n more g.0 g.2)
       (two_at (permit_count n) views by other h.0 g.0 h.1 g.1 ne) (k.permits n) (one_le (nat_lt n b.next))))
       (cases_eq other by)
 
@@ -109,8 +109,8 @@ module _ (words : List ℕ) (views : List View) (seat : ℕ) (b : View) (k : Rul
       each j w at = no_account n w (least _ _ _ (total_at (pass_count n) views j w at) (k.passes n) none)
           (zero_parts _ _ (least _ _ _ (total_at (permit_count n) views j w at) (k.permits n) none)).1
 
-  home_token : (n : ℕ) (v : View) → IsPassOf n v → v.away ≡ false → permit_count n v ≡ 1 + one (is_permit_of n v.permit)
-  home_token n v iv home = ap (λ t. cond t 0 (pass_count n v) + one (is_permit_of n v.permit)) home ∙ ap (λ t. one t + one (is_permit_of n v.permit)) (is_one n v iv)
+  home_permit : (n : ℕ) (v : View) → IsPassOf n v → v.away ≡ false → permit_count n v ≡ 1 + one (is_permit_of n v.permit)
+  home_permit n v iv home = ap (λ t. cond t 0 (pass_count n v) + one (is_permit_of n v.permit)) home ∙ ap (λ t. one t + one (is_permit_of n v.permit)) (is_one n v iv)
 
   at_home : (by n : ℕ) (v : View) → At views by v → IsPassOf n v → v.away ≡ false → AtHome views b.own.seen n v.calls
   at_home by n v at iv home = (nobody, subst (λ m. owned m b.own.seen ≡ v.calls) iv.1 (calls_at_home words views seat b by v k at iv.0 home))
@@ -121,10 +121,10 @@ module _ (words : List ℕ) (views : List View) (seat : ℕ) (b : View) (k : Rul
       nobody : (other uses : ℕ) → ¬ (Holds views other n uses)
       nobody other uses h = ⊎_elim
           (λ (e : other ≡ by). let same : h.0 ≡ v = some-injective h.0 v (sym h.1 ∙ ap (get_elem? views) e ∙ at) in
-          twice _ _ _ _ (home_token n v iv home)
-          (true_one (is_permit_of n v.permit) (ap (λ (u : View). is_permit_of n u.permit) (sym same) ∙ token_of n uses h.0 h.2))
+          twice _ _ _ _ (home_permit n v iv home)
+          (true_one (is_permit_of n v.permit) (ap (λ (u : View). is_permit_of n u.permit) (sym same) ∙ permit_is_of n uses h.0 h.2))
           (total_at (permit_count n) views by v at) (k.permits n) (one_le (nat_lt n b.next)))
-          (λ (ne : other ≢ by). too_many _ _ _ _ (let t = home_token n v iv home in omega arith) (has_token n uses h.0 h.2)
+          (λ (ne : other ≢ by). too_many _ _ _ _ (let t = home_permit n v iv home in omega arith) (counts_permit n uses h.0 h.2)
           (two_at (permit_count n) views by other v h.0 at h.1 ne) (k.permits n) (one_le (nat_lt n b.next)))
           (cases_eq other by)
 
@@ -145,14 +145,14 @@ module _ (words : List ℕ) (views : List View) (seat : ℕ) (b : View) (k : Rul
         second x y h e = omega arith
 
         held_by : (i : ℕ) (u : View) → At views i u → 1 ≤ permit_count n u → (a : Bool) → u.away ≡ a → is_permit_of n u.permit ≡ true
-        held_by i u there some_token true e = one_true (is_permit_of n u.permit) (second (cond u.away 0 (pass_count n u)) _ some_token (ap (λ t. cond t 0 (pass_count n u)) e))
-        held_by i u there some_token false e = ⊎_elim
+        held_by i u there some_permit true e = one_true (is_permit_of n u.permit) (second (cond u.away 0 (pass_count n u)) _ some_permit (ap (λ t. cond t 0 (pass_count n u)) e))
+        held_by i u there some_permit false e = ⊎_elim
             (λ (y : is_pass_of n u ≡ true).
             let where_ : i ≡ by = differ i by n u v there at (numbered_is n u y) iv in
             let same : u ≡ v = some-injective u v (sym there ∙ ap (get_elem? views) where_ ∙ at) in
             let z : false ≡ true = sym e ∙ ap (λ (x : View). x.away) same ∙ gone in cc)
             (λ (no : is_pass_of n u ≡ false).
-            one_true (is_permit_of n u.permit) (second (cond u.away 0 (pass_count n u)) _ some_token (ap (λ t. cond t 0 (pass_count n u)) e ∙ ap one no)))
+            one_true (is_permit_of n u.permit) (second (cond u.away 0 (pass_count n u)) _ some_permit (ap (λ t. cond t 0 (pass_count n u)) e ∙ ap one no)))
             (cases_Bool (is_pass_of n u))
 
     -- all that is accounted for lies with the pass and the holder

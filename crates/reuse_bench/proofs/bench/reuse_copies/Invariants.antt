@@ -1,0 +1,5 @@
+use Rattle.std.proofs.Common.{◌≡◌}
+use Rattle.reuse_bench.proofs.bench.reuse_copies.Given as goal
+
+abbrev pub invariant-loop : goal.invariant-loop
+invariant-loop l = l.pass.table ≡ l.cells
