@@ -1,6 +1,7 @@
 //! The word, the cells and the kept text that the loops use.
 
-ghost use Rattle.std.specs.Prelude.{◌≡◌};
+ghost use Rattle.std.specs.Prelude.{◌≡◌, ◌<◌, IfOk};
+ghost use Rattle.reuse_bench.specs.Looked.{HasLooked, looks_of};
 
 use crate::task::Task;
 use jar_types::{Moment, NoMemory, Text};
@@ -27,7 +28,9 @@ pub struct Bench {
 
 impl Bench {
     /// The word and the cell, which one entry moved, and the kept text.
-    pub fn make(alloc: Global) -> Result<Bench, NoMemory> {
+    pub fn make(alloc: Global) -> Result<Bench, NoMemory>
+        ensures until { IfOk result (λ bench. bench.kept.until ≡ 1) }
+    {
         let Made {
             cells,
             mut baton,
@@ -51,7 +54,10 @@ impl Bench {
     }
 
     /// Does a task so many times at a moment, and sums up what each round gives: a number or a length.
-    pub fn sum(&mut self, alloc: Global, task: Task, now: Moment, rounds: u64) -> u64 {
+    pub fn sum(&mut self, alloc: Global, task: Task, now: Moment, rounds: u64) -> u64
+        requires early { now < self.old.kept.until }
+        ensures looked { HasLooked self.old.pass self.new.pass (looks_of task rounds) }
+    {
         match task {
             Task::Load => loads(&self.word, rounds),
             Task::Look => looks(&self.cells, &mut self.pass, rounds),
@@ -74,6 +80,7 @@ fn loads(word: &AtomicU64, rounds: u64) -> u64 {
 fn looks(cells: &Cells, pass: &mut Pass, rounds: u64) -> u64
     requires same { pass.old.table ≡ cells.now }
     ensures same { pass.new.table ≡ cells.now }
+    ensures looked { HasLooked pass.old pass.new rounds }
 {
     let mut sum = 0u64;
     for _ in 0..rounds {
@@ -109,7 +116,9 @@ fn reuse_copies(
     rounds: u64,
 ) -> u64
     requires same { pass.old.table ≡ cells.now }
+    requires early { now < kept.now.until }
     ensures same { pass.new.table ≡ cells.now }
+    ensures looked { HasLooked pass.old pass.new rounds }
 {
     let mut sum = 0u64;
     for _ in 0..rounds {
