@@ -10,32 +10,24 @@ use jar_types::Moment;
 use std::process::ExitCode;
 use std::{env, io};
 
-/// The words of the command line behind the program's own name.
-fn words_of(rt: &HostRuntime) -> io::Result<Vec<String>> {
-    let mut words = Vec::new(rt.alloc());
-    for word in env::args(rt)?.skip(1) {
-        words.push(word)?;
-    }
-    Ok(words)
-}
-
-/// The task and the rounds that the words ask for, `None` for other words.
-fn asked(words: &[String]) -> Option<(Task, u64)> {
-    let [task, rounds] = words else {
-        return None;
+/// The task and the rounds that the words of the command line ask for, `None` for other words.
+fn asked(rt: &HostRuntime) -> io::Result<Option<(Task, u64)>> {
+    let mut words = env::args(rt)?.skip(1);
+    let (Some(task), Some(rounds), None) = (words.next(), words.next(), words.next()) else {
+        return Ok(None);
     };
-    let task = Task::of(task.as_str())?;
-    match rounds.parse::<u64>() {
-        Ok(rounds) => Some((task, rounds)),
-        Err(_) => None,
-    }
+    let task = Task::of(task.as_str());
+    let Ok(rounds) = rounds.parse::<u64>() else {
+        return Ok(None);
+    };
+    Ok(task.map(|task| (task, rounds)))
 }
 
 fn main(rt: HostRuntime) -> ExitCode {
-    let Ok(words) = words_of(&rt) else {
+    let Ok(asked) = asked(&rt) else {
         return ExitCode::from(7);
     };
-    let Some((task, rounds)) = asked(words.as_slice()) else {
+    let Some((task, rounds)) = asked else {
         return ExitCode::from(2);
     };
     let (Ok(mut bench), Some(now)) = (Bench::make(rt.alloc()), Moment::of(0)) else {
