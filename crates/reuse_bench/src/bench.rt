@@ -1,6 +1,6 @@
 //! The word, the cells and the kept text that the loops use.
 
-ghost use Rattle.std.specs.Prelude.{◌≡◌, ◌<◌, IfOk};
+ghost use Rattle.std.specs.Prelude.{◌≡◌, ◌<◌, ◌-◌, ◌^◌, IfOk, length, min};
 ghost use Rattle.reuse_bench.specs.Looked.{HasLooked, looks_of};
 
 use crate::task::Task;
@@ -17,19 +17,21 @@ const ANSWER: &str = "SID=31d4d96e407aad42; theme=dark; lang=en-GB";
 const CELL: u32 = 7;
 
 /// A bare word of 1, and a cell of version 1 with a text that is kept at it.
+///
+/// Word and text lie in boxes, so that the compiler knows neither and each round reads them anew.
 #[derive(Drop)]
 pub struct Bench {
-    word: AtomicU64,
+    word: Box<AtomicU64>,
     cells: Cells,
     pass: Pass,
-    kept: Kept,
+    kept: Box<Kept>,
     ghost same: { pass.table ≡ cells },
 }
 
 impl Bench {
     /// The word and the cell, which one entry moved, and the kept text.
     pub fn make(alloc: Global) -> Result<Bench, NoMemory>
-        ensures until { IfOk result (λ bench. bench.kept.until ≡ 1) }
+        ensures until { IfOk result (λ bench. bench.kept.value.until ≡ 1) }
     {
         let Made {
             cells,
@@ -46,16 +48,23 @@ impl Bench {
             text: Text::of(alloc, ANSWER)?,
         };
         Ok(Bench {
-            word: AtomicU64::new(1),
+            word: Box::new(alloc, AtomicU64::new(1))?,
             cells,
             pass: cutter,
-            kept,
+            kept: Box::new(alloc, kept)?,
         })
+    }
+
+    /// How many looks were made.
+    pub fn looks(&self) -> u64
+        ensures { result ≡ min (length self.now.pass.view.looks) (2 ^ 64 - 1) }
+    {
+        self.pass.looks()
     }
 
     /// Does a task so many times at a moment, and sums up what each round gives: a number or a length.
     pub fn sum(&mut self, alloc: Global, task: Task, now: Moment, rounds: u64) -> u64
-        requires early { now < self.old.kept.until }
+        requires early { now < self.old.kept.value.until }
         ensures looked { HasLooked self.old.pass self.new.pass (looks_of task rounds) }
     {
         match task {

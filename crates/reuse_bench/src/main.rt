@@ -34,7 +34,7 @@ fn main(rt: HostRuntime) -> ExitCode {
         return ExitCode::from(7);
     };
     let sum = bench.sum(rt.alloc(), task, now, rounds);
-    match println!(rt; "{sum}") {
+    match println!(rt; "{sum} {}", bench.looks()) {
         Ok(()) => ExitCode::from(0),
         Err(_) => ExitCode::from(5),
     }
