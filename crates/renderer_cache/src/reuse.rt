@@ -17,7 +17,12 @@ pub enum Reuse<'kept> {
     /// The look found the kept version: the kept text.
     Hit(&'kept str),
     /// The look found another version.
-    Moved { kept: u64, found: u64 },
+    Moved {
+        /// The kept version.
+        kept: u64,
+        /// The number that the look found.
+        found: u64,
+    },
 }
 
 impl Kept {

@@ -106,7 +106,7 @@ covers_all words views id b (m ∷ ms) k h = ((h.0.begins, h.0.found, of_look m.
   where
     of_look : (seen : List Entry) (o : Option Look) → LookFits words seen o → CoversLook b o
     of_look seen None f = tt
-    of_look seen (Some l) f = λ low high. subst (λ n. l.number ≤ n) (k.versions l.cell low high) f.2
+    of_look seen (Some l) f = subst (λ n. l.number ≤ n) (k.versions l.cell f.0.0 f.0.1) f.3
 
 pub baton_counts : (slots id : ℕ) (me : Me ℕ View) → me.0.kind ≡ Baton → me.1 ≡ []
     → Allows {S = ℕ} {V = View} Holding slots id me 0 (λ n. n) (λ n after. (after ≡ (me.0, [])) × (n ≡ length me.0.own.seen) × CoversAll me.0 me.0.notes)

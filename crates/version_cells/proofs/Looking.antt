@@ -34,7 +34,7 @@ look_kept words views seat b id v c k at kind low high =
       record {
         begins = old.0.begins;
         found = old.0.found;
-        look = (omega arith, subst (λ (l : List Entry). turns c l ≤ slice_index words c) (sym all) found, omega arith);
+        look = ((low, high), omega arith, subst (λ (l : List Entry). turns c l ≤ slice_index words c) (sym all) found, omega arith);
       },
       old.1,
     )

@@ -1,5 +1,5 @@
 -- The steps of a lending and of a meeting, at seats whose views are known by equations.
-use Rattle.std.proofs.Common.{◌≡◌, ◌≤◌, ℕ, List, [], ◌∷◌, ◌++◌, length, Bool, false, refl, sym, ap, ◌∙◌, subst, arith, Option, Some, None, length-append, append-nil}
+use Rattle.std.proofs.Common.{◌≡◌, ◌≤◌, ◌+◌, ℕ, List, [], ◌∷◌, ◌++◌, length, Bool, false, refl, sym, ap, ◌∙◌, subst, arith, Option, Some, None, length-append, append-nil}
 use Rattle.std.proofs.lemmas.List.{nil_from_length}
 use Rattle.atomic_table.specs.Table.{Me, Joins}
 use Rattle.version_cells.specs.declared.entry.Entry.{Entry}
@@ -8,9 +8,9 @@ use Rattle.version_cells.specs.declared.view.Permit.{Permit}
 use Rattle.version_cells.specs.declared.view.Kind.TheVariants.{Baton, Pass}
 use Rattle.version_cells.specs.declared.view.View.{View}
 use Rattle.version_cells.specs.Entries.{StartsWith, owned}
-use Rattle.version_cells.specs.Views.{copy_with, spent_view}
+use Rattle.version_cells.specs.Views.{copy_with, spent_view, uses_of}
 use Rattle.version_cells.specs.Moves.{without_permit, baton_copy_with_permit, pass_copy, baton_with_copy, pass_with_copy, after_front, longer, longest, MayTake, IsOwn, is_away_after}
-use Rattle.version_cells.specs.Told.{baton_after_meet, Covers, CoversAll, FrontTells, ComesHome, Met}
+use Rattle.version_cells.specs.Told.{pass_after_meet, baton_after_meet, Covers, CoversAll, FrontTells, ComesHome, Met}
 use Rattle.version_cells.proofs.Steps.{Holding}
 use Rattle.version_cells.proofs.Joining.{baton_takes, pass_takes}
 use Rattle.version_cells.proofs.Prefixes.{longer_covers, longer_keeps, starts_length}
@@ -48,10 +48,26 @@ whole a b s h =
     let none : s.0 ≡ [] = nil_from_length s.0 (omega arith) in
     s.1 ∙ ap (λ (l : List Entry). b ++ l) none ∙ append-nil b
 
+-- the pass after the copy came in and the front step, with what it has seen and found, and whether its permit is away
+abbrev with_memory : View → View → List Entry → ℕ → Bool → View
+with_memory p b seen found away = record p {
+  own = record { seen = seen; last = p.own.last; found = found };
+  notes = (baton_copy_with_permit b).own ∷ p.notes;
+  calls = p.calls + uses_of b.permit;
+  away = away;
+  fronts = p.fronts + 1;
+}
+
+-- What a meeting makes of pass and baton, and what it tells
+pub record MeetingOf (p b q c : View) : Type 0 where
+  pub pass : q ≡ pass_after_meet p b
+  pub baton : c ≡ baton_after_meet b p
+  pub met : Met p b
+
 -- a pass took a copy of the baton in and read the number of entries
 plain : (p b : View) (found : ℕ) → ComesHome p.number p.away b.permit → FrontTells (pass_with_copy p (baton_copy_with_permit b)) found
     → Covers b (after_front (pass_with_copy p (baton_copy_with_permit b)) found).own
-    → let q : View = after_front (pass_with_copy p (baton_copy_with_permit b)) found in Met p b q (baton_after_meet b q)
+    → (after_front (pass_with_copy p (baton_copy_with_permit b)) found ≡ pass_after_meet p b) × Met p b
 plain p b found home f r =
     let seen : List Entry = longest p.own.seen ((baton_copy_with_permit b).own ∷ p.notes) in
     let covers : length b.own.seen ≤ length seen = longest_covers p.own.seen (baton_copy_with_permit b).own p.notes in
@@ -62,27 +78,25 @@ plain p b found home f r =
     let least : length seen ≤ length f.log = starts_length f.log seen f.begins in
     let log : f.log ≡ seen = whole f.log seen f.begins (omega arith) in
     let away : is_away_after p.away b.permit ≡ false = comes_home p.number p.away b.permit home in
-    record {
-      seen = sym same;
-      begins = f.extends;
-      found = (let n : found ≡ length seen = omega arith in n);
-      last = refl;
-      looks = refl;
-      fronts = refl;
-      number = refl;
-      calls = refl;
-      home = away;
-      owns = ap (λ (l : List Entry). owned p.number l) (sym log) ∙ f.calls away;
-      baton = refl;
-      covers = r;
-    }
+    let number : found ≡ length b.own.seen = omega arith in (
+      ap (λ (l : List Entry). with_memory p b l found (is_away_after p.away b.permit)) (sym same)
+          ∙ ap (λ n. with_memory p b b.own.seen n (is_away_after p.away b.permit)) number
+          ∙ ap (λ a. with_memory p b b.own.seen (length b.own.seen) a) away,
+      record {
+        begins = subst (λ (l : List Entry). StartsWith l p.own.seen) (sym same) f.extends;
+        owns = ap (λ (l : List Entry). owned p.number l) (same ∙ sym log) ∙ f.calls away;
+        look = r.2;
+      },
+    )
 
 pub meets : (p b p1 p2 b2 : View) (found : ℕ) → ComesHome p.number p.away b.permit → p1 ≡ pass_with_copy p (baton_copy_with_permit b) → p2 ≡ after_front p1 found → FrontTells p1 found
-    → b2 ≡ baton_with_copy (without_permit b) (pass_copy p2) → CoversAll b2 b2.notes → Met p b p2 b2
+    → b2 ≡ baton_with_copy (without_permit b) (pass_copy p2) → CoversAll b2 b2.notes → MeetingOf p b p2 b2
 meets p b p1 p2 b2 found home e1 e2 f e3 r =
     let is : p2 ≡ after_front (pass_with_copy p (baton_copy_with_permit b)) found = e2 ∙ ap (λ (u : View). after_front u found) e1 in
     let told : CoversAll (baton_with_copy (without_permit b) (pass_copy p2)) (p2.own ∷ b.notes) = subst (λ (u : View). CoversAll u u.notes) e3 r in
-    subst (λ (c : View). Met p b p2 c) (sym e3)
-    (subst (λ (q : View). Met p b q (baton_after_meet b q)) (sym is)
-    (plain p b found home (subst (λ (u : View). FrontTells u found) e1 f)
-    (subst (λ (q : View). Covers b q.own) is (told.0))))
+    let made = plain p b found home (subst (λ (u : View). FrontTells u found) e1 f) (subst (λ (q : View). Covers b q.own) is (told.0)) in
+    record {
+      pass = is ∙ made.0;
+      baton = e3 ∙ ap (λ (q : View). baton_with_copy (without_permit b) (pass_copy q)) (is ∙ made.0);
+      met = made.1;
+    }

@@ -76,9 +76,9 @@ pub look_grows : (words words' : List ℕ) (seen seen' : List Entry) (o : Option
 look_grows words words' seen seen' None s up h = tt
 look_grows words words' seen seen' (Some l) s up h =
     let longer_now = starts_length seen' seen s in
-    let same : take l.place seen' ≡ take l.place seen = ap (take l.place) s.1 ∙ take-append-le l.place seen s.0 h.0 in
+    let same : take l.place seen' ≡ take l.place seen = ap (take l.place) s.1 ∙ take-append-le l.place seen s.0 h.1 in
     let u = up l.cell in
-    (omega arith, subst (λ (t : List Entry). turns l.cell t ≤ l.number) (sym same) h.1, (let k = h.2 in omega arith))
+    (h.0, (let w = h.1 in omega arith), subst (λ (t : List Entry). turns l.cell t ≤ l.number) (sym same) h.2, (let k = h.3 in omega arith))
 
 pub fits_grows : (words words' : List ℕ) (log log' : List Entry) (m : Memory) → StartsWith log' log → ((i : ℕ) → slice_index words i ≤ slice_index words' i) → Fits words log m → Fits words' log' m
 fits_grows words words' log log' m s up h = record {

@@ -6,15 +6,15 @@ use Rattle.version_cells.specs.declared.view.Look.{Look}
 use Rattle.version_cells.specs.declared.view.Memory.{Memory}
 use Rattle.version_cells.specs.declared.view.Kind.TheVariants.{Baton, Pass}
 use Rattle.version_cells.specs.declared.view.View.{View}
-use Rattle.version_cells.specs.Entries.{one, has, turns, owned, StartsWith}
+use Rattle.version_cells.specs.Entries.{one, has, IsCell, turns, owned, StartsWith}
 use Rattle.version_cells.specs.Views.{At, memories}
 
--- A last look was made at a place within what was seen, found at least the turns of its cell up to
--- that place, and at most what its word is now
+-- A last look was of a cell and made at a place within what was seen; it found at least the turns of
+-- the cell up to that place, and at most what its word is now
 abbrev pub LookFits : List ℕ → List Entry → Option Look → Type 0
 LookFits words seen None = Unit {0}
 LookFits words seen (Some s) =
-    (s.place ≤ length seen) × (turns s.cell (take s.place seen) ≤ s.number)
+    IsCell s.cell × (s.place ≤ length seen) × (turns s.cell (take s.place seen) ≤ s.number)
     × (s.number ≤ slice_index words s.cell)
 
 -- What was seen begins the history, no more was found than stands there, and the last look fits

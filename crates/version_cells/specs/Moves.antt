@@ -78,7 +78,7 @@ pass_with_copy v w = record v {
   away = is_away_after v.away w.permit;
 }
 
--- the longer of two lists, the first where they are as long
+-- the longer of two lists, the first where both have the same length
 abbrev pub longer : List Entry → List Entry → List Entry
 longer a b = cond (nat_lt (length a) (length b)) b a
 

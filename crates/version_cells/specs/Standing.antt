@@ -8,20 +8,20 @@ use Rattle.version_cells.specs.Views.{first_baton, new_pass}
 use Rattle.version_cells.specs.Moves.{after_commit}
 
 -- The baton: the table that it goes to, and what it knows
-pub record Standing : Type 0 where
+pub record BatonStanding : Type 0 where
   pub table : TableId
   pub view : View
 
 -- the baton with another view
-abbrev pub with_view : Standing → View → Standing
-with_view s v = record s { view = v }
+abbrev pub baton_with_view : BatonStanding → View → BatonStanding
+baton_with_view s v = record s { view = v }
 
 -- the baton, once it committed this entry
-abbrev pub with_entry : Standing → Entry → Standing
-with_entry s e = with_view s (after_commit s.view e)
+abbrev pub baton_with_entry : BatonStanding → Entry → BatonStanding
+baton_with_entry s e = baton_with_view s (after_commit s.view e)
 
 -- the baton, once so many passes were made
-abbrev pub new_baton : TableId → ℕ → Standing
+abbrev pub new_baton : TableId → ℕ → BatonStanding
 new_baton t n = record { table = t; view = record first_baton { next = n } }
 
 -- A pass: the table that it goes to, what it knows, and its front, the history up to and with the
@@ -36,17 +36,17 @@ abbrev pub pass_with_view : PassStanding → View → PassStanding
 pass_with_view s v = record s { view = v }
 
 -- the pass, once its call is answered: its front is all that it has seen
-abbrev pub with_answer : PassStanding → PassStanding
-with_answer s = record s { front = s.view.own.seen }
+abbrev pub pass_with_answer : PassStanding → PassStanding
+pass_with_answer s = record s { front = s.view.own.seen }
 
 -- a pass when it is made
-abbrev pub new_standing : TableId → ℕ → PassStanding
-new_standing t n = record { table = t; view = new_pass n; front = [] }
+abbrev pub new_pass_standing : TableId → ℕ → PassStanding
+new_pass_standing t n = record { table = t; view = new_pass n; front = [] }
 
 -- the passes of the first n numbers, in their order
 abbrev pub new_passes : TableId → ℕ → List PassStanding
 new_passes t zero = []
-new_passes t (suc n) = new_passes t n ++ new_standing t n ∷ []
+new_passes t (suc n) = new_passes t n ++ new_pass_standing t n ∷ []
 
 -- the entry that a commit names by its cells and its owner
 abbrev pub entry_of : List ℕ → Option ℕ → Entry

@@ -1,7 +1,7 @@
 //! Answering a call.
 
 ghost use Rattle.std.specs.Prelude.{◌≡◌};
-ghost use Rattle.version_cells.specs.Standing.{with_answer};
+ghost use Rattle.version_cells.specs.Standing.{pass_with_answer};
 ghost use Rattle.version_cells.specs.Answered.{MayAnswer};
 
 use crate::cells::Cells;
@@ -14,7 +14,7 @@ impl Cells {
     pub fn answered(&self, pass: &mut Pass)
         requires same { pass.old.table ≡ self.now }
         requires due { MayAnswer pass.old }
-        ensures { pass.new ≡ with_answer pass.old }
+        ensures { pass.new ≡ pass_with_answer pass.old }
     {
         pass.front = pass.seen;
     }

@@ -15,9 +15,9 @@ pub struct Baton {
 impl Model for Baton {
     ghost use Rattle.std.specs.Prelude.{◌≡◌, []};
     ghost use Rattle.version_cells.specs.declared.view.Kind.TheVariants.{Baton as IsBaton};
-    ghost use Rattle.version_cells.specs.Standing.{Standing};
+    ghost use Rattle.version_cells.specs.Standing.{BatonStanding};
 
-    ghost Value = { Standing };
+    ghost Value = { BatonStanding };
 
     ghost view = { λ s. record { table = s.seat.table_id; view = s.seat.me.0 } };
 

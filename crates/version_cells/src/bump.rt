@@ -3,7 +3,7 @@
 ghost use Rattle.std.specs.Prelude.{◌≡◌, false};
 ghost use Rattle.version_cells.specs.Entries.{has, IsCell};
 ghost use Rattle.version_cells.specs.Moves.{after_bump};
-ghost use Rattle.version_cells.specs.Standing.{with_view};
+ghost use Rattle.version_cells.specs.Standing.{baton_with_view};
 
 use crate::baton::Baton;
 use crate::cells::Cells;
@@ -28,7 +28,7 @@ impl Cells {
         requires same { baton.old.table ≡ self.now }
         requires cell { IsCell cell }
         requires free { has cell baton.old.view.pending ≡ false }
-        ensures { baton.new ≡ with_view baton.old (after_bump baton.old.view cell) }
+        ensures { baton.new ≡ baton_with_view baton.old (after_bump baton.old.view cell) }
     {
         self.table
             .shared

@@ -2,7 +2,7 @@
 
 ghost use Rattle.std.specs.Prelude.{◌≡◌};
 ghost use Rattle.version_cells.specs.Moves.{MayCommit};
-ghost use Rattle.version_cells.specs.Standing.{with_entry, entry_of};
+ghost use Rattle.version_cells.specs.Standing.{baton_with_entry, entry_of};
 
 use crate::baton::Baton;
 use crate::cells::Cells;
@@ -17,6 +17,7 @@ pub trait Committed {
     ghost entry: { Entry };
 }
 
+// What stands here is not used: whoever calls a function with `Brand` picks the entry in its proof.
 impl Committed for Brand {
     ghost use Rattle.version_cells.specs.Entries.{no_entry};
 
@@ -41,7 +42,7 @@ impl Cells {
     pub fn commit(&self, baton: &mut Baton, owner: Option<u32>, moved: &[u32])
         requires same { baton.old.table ≡ self.now }
         requires may { MayCommit baton.old.view (entry_of moved.now owner) }
-        ensures { baton.new ≡ with_entry baton.old (entry_of moved.now owner) }
+        ensures { baton.new ≡ baton_with_entry baton.old (entry_of moved.now owner) }
     {
         self.commit_as::<Brand>(baton, owner, moved);
     }
@@ -50,7 +51,7 @@ impl Cells {
         requires same { baton.old.table ≡ self.now }
         requires may { MayCommit baton.old.view (entry_of moved.now owner) }
         requires named { E.entry ≡ entry_of moved.now owner }
-        ensures { baton.new ≡ with_entry baton.old (entry_of moved.now owner) }
+        ensures { baton.new ≡ baton_with_entry baton.old (entry_of moved.now owner) }
     {
         self.table
             .shared

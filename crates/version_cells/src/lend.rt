@@ -3,7 +3,7 @@
 ghost use Rattle.std.specs.Prelude.{◌≡◌, false, None};
 ghost use Rattle.version_cells.specs.Moves.{after_lending, with_permit_of};
 ghost use Rattle.version_cells.specs.Told.{Covers};
-ghost use Rattle.version_cells.specs.Standing.{with_view, pass_with_view};
+ghost use Rattle.version_cells.specs.Standing.{baton_with_view, pass_with_view};
 
 use crate::baton::Baton;
 use crate::cells::Cells;
@@ -21,7 +21,7 @@ impl Cells {
         requires free { (pass.old.view.away ≡ false) × (baton.old.view.permit ≡ None) }
         ensures pass { pass.new ≡ pass_with_view pass.old (after_lending pass.old.view) }
         ensures baton { baton.new
-            ≡ with_view baton.old (with_permit_of baton.old.view pass.old.view) }
+            ≡ baton_with_view baton.old (with_permit_of baton.old.view pass.old.view) }
         ensures covers { Covers baton.old.view pass.old.view.own }
     {
         let copy = self.table.shared.split_seat::<PassLends>(&mut pass.seat);

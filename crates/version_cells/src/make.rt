@@ -2,7 +2,7 @@
 
 ghost use Rattle.std.specs.Prelude.{◌≡◌, ◌+◌, IfOk};
 ghost use Rattle.version_cells.specs.Moves.{after_new_pass};
-ghost use Rattle.version_cells.specs.Standing.{with_view, new_baton, new_standing, new_passes};
+ghost use Rattle.version_cells.specs.Standing.{baton_with_view, new_baton, new_pass_standing, new_passes};
 
 use crate::baton::Baton;
 use crate::cells::{Cells, WORDS};
@@ -19,7 +19,7 @@ pub struct Made {
     pub cells: Cells,
     /// The baton, which has committed nothing.
     pub baton: Baton,
-    /// The pass of the last number.
+    /// The pass of the cutter, who loads and commits, with the last number.
     pub cutter: Pass,
     /// The passes of the callers, by their numbers from 0.
     pub passes: Vec<Pass>,
@@ -47,12 +47,12 @@ fn open(alloc: Global) -> Result<(Cells, Baton), AllocError>
 }
 
 impl Cells {
-    /// Makes the words, the baton, a pass for each caller and the cutter's pass.
+    /// Makes the words, all 0, the baton, a pass for each caller and the cutter's pass.
     ///
-    /// This jar's own rule: docs/DEFINITIONS.md.
+    /// `NoMemory` leaves nothing behind. This jar's own rule: docs/DEFINITIONS.md.
     pub fn make(alloc: Global, callers: u32) -> Result<Made, NoMemory>
         ensures baton { IfOk result (λ m. m.baton ≡ new_baton m.cells (callers + 1)) }
-        ensures cutter { IfOk result (λ m. m.cutter ≡ new_standing m.cells callers) }
+        ensures cutter { IfOk result (λ m. m.cutter ≡ new_pass_standing m.cells callers) }
         ensures passes { IfOk result (λ m. m.passes.items ≡ new_passes m.cells callers) }
     {
         let (cells, mut baton) = open(alloc)?;
@@ -87,8 +87,8 @@ impl Cells {
     fn add_pass(&self, baton: &mut Baton, number: u32) -> Pass
         requires same { baton.old.table ≡ self.now }
         requires next { baton.old.view.next ≡ number }
-        ensures baton { baton.new ≡ with_view baton.old (after_new_pass baton.old.view) }
-        ensures pass { result ≡ new_standing self.now number }
+        ensures baton { baton.new ≡ baton_with_view baton.old (after_new_pass baton.old.view) }
+        ensures pass { result ≡ new_pass_standing self.now number }
     {
         let seat = self.table.shared.split_seat::<MakesPass>(&mut baton.seat);
         Pass {

@@ -1,8 +1,8 @@
 //! Meeting the baton.
 
 ghost use Rattle.std.specs.Prelude.{◌≡◌};
-ghost use Rattle.version_cells.specs.Told.{ComesHome, Met};
-ghost use Rattle.version_cells.specs.Standing.{with_view, pass_with_view};
+ghost use Rattle.version_cells.specs.Told.{ComesHome, Met, pass_after_meet, baton_after_meet};
+ghost use Rattle.version_cells.specs.Standing.{baton_with_view, pass_with_view};
 
 use crate::baton::Baton;
 use crate::cells::Cells;
@@ -12,15 +12,18 @@ use crate::joins::{BatonTakes, PassTakes};
 use crate::pass::Pass;
 
 impl Cells {
-    /// Shows the pass all committed entries, brings its permit home, and notes its last look.
+    /// Shows the pass all committed entries, brings its permit home, and has the baton note its last
+    /// look.
     ///
-    /// What pass and baton are then is the record `Met`. This jar's own rule: docs/DEFINITIONS.md.
+    /// What the meeting tells is the record `Met`. This jar's own rule: docs/DEFINITIONS.md.
     pub fn meet(&self, pass: &mut Pass, baton: &mut Baton)
         requires same { (pass.old.table ≡ self.now) × (baton.old.table ≡ self.now) }
         requires home { ComesHome pass.old.view.number pass.old.view.away baton.old.view.permit }
-        ensures pass { pass.new ≡ pass_with_view pass.old pass.new.view }
-        ensures baton { baton.new ≡ with_view baton.old baton.new.view }
-        ensures met { Met pass.old.view baton.old.view pass.new.view baton.new.view }
+        ensures pass { pass.new
+            ≡ pass_with_view pass.old (pass_after_meet pass.old.view baton.old.view) }
+        ensures baton { baton.new
+            ≡ baton_with_view baton.old (baton_after_meet baton.old.view pass.old.view) }
+        ensures met { Met pass.old.view baton.old.view }
     {
         let copy = self.table.shared.split_seat::<BatonCopies>(&mut baton.seat);
         self.table

@@ -15,8 +15,11 @@ use std::marker::Model;
 #[derive(Drop)]
 pub struct Pass {
     pub(crate) seat: Seat<u8, View>,
+    // Its number.
     pub(crate) caller: u32,
+    // How many looks were made, at most the last `u64`.
     pub(crate) looks: u64,
+    // How many entries it has seen, and how many of these its front has.
     pub(crate) seen: u64,
     pub(crate) front: u64,
 }

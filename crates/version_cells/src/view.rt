@@ -3,23 +3,31 @@
 use crate::entry::Entry;
 use std::collections::LinkedList;
 
-/// One look: the cell, the number that was read, and how many entries the pass had seen then.
+/// One look at the version of a cell.
 pub struct Look {
+    /// The cell, of 1 to 4,096.
     pub cell: u32,
+    /// The number that was read.
     pub number: u64,
+    /// How many entries the pass had seen then.
     pub place: u64,
 }
 
-/// The entries that a seat has seen, its last look, and how many entries its last front found.
+/// What a seat remembers, and what a copy of it takes along.
 pub struct Memory {
+    /// The entries that it has seen, which begin the history.
     pub seen: LinkedList<Entry>,
+    /// The last look of its pass, if there was one.
     pub last: Option<Look>,
+    /// How many entries its last front step found.
     pub found: u64,
 }
 
-/// The permit of the pass of a number, and how many entries of that owner came since it was lent.
+/// The leave to commit entries in the name of a pass, as it lies with the baton or a copy.
 pub struct Permit {
+    /// The number of the pass.
     pub number: u32,
+    /// How many entries of that owner came since it was lent.
     pub uses: u64,
 }
 
@@ -35,20 +43,28 @@ pub enum Kind {
     Spent,
 }
 
-/// What one seat knows.
-///
-/// `own` and `notes` are every seat's, `permit` a baton's or a copy's, `pending` and `next` a
-/// baton's, and the rest a pass's. This jar's own rule: docs/DEFINITIONS.md.
+/// What one seat knows. This jar's own rule: docs/DEFINITIONS.md.
 pub struct View {
+    /// What the seat is.
     pub kind: Kind,
+    /// What it remembers itself.
     pub own: Memory,
+    /// What it took in with copies, the newest first.
     pub notes: LinkedList<Memory>,
+    /// Of a baton or a copy: the permit that lies with it.
     pub permit: Option<Permit>,
+    /// Of a baton: the cells that were bumped for an entry to come.
     pub pending: LinkedList<u32>,
+    /// Of a baton: the number of the next pass.
     pub next: u32,
+    /// Of a pass: its number, by which it owns entries.
     pub number: u32,
+    /// Of a pass: its entries, but for those of a permit that is away.
     pub calls: u64,
+    /// Of a pass: whether its permit is away.
     pub away: bool,
+    /// Of a pass: its looks, the newest last.
     pub looks: LinkedList<Look>,
+    /// Of a pass: how many front steps it made.
     pub fronts: u64,
 }

@@ -3,18 +3,18 @@
 use Rattle.std.specs.Prelude.{◌≡◌, ◌<◌, ◌-◌, ◌+◌, ◌^◌, ℕ, List, [], length, slice_index_or, false, None}
 use Rattle.atomic_table.specs.Seated.{TableId}
 use Rattle.version_cells.specs.Entries.{IsCell, owned}
-use Rattle.version_cells.specs.Standing.{Standing, PassStanding}
+use Rattle.version_cells.specs.Standing.{BatonStanding, PassStanding}
 
 -- the identity that stands for no table
 abbrev pub no_table : TableId
 no_table = record { words = 0; slots = 0; views_name = 0; atom = 0; block = 0; offset = 0; slot_names = [] }
 
 -- the baton goes to this table, has no pending cell, and holds no permit
-abbrev pub IsFree : TableId → Standing → Type 0
+abbrev pub IsFree : TableId → BatonStanding → Type 0
 IsFree t s = (s.table ≡ t) × (s.view.pending ≡ []) × (s.view.permit ≡ None)
 
 -- one more entry may be committed
-abbrev pub HasRoom : Standing → Type 0
+abbrev pub HasRoom : BatonStanding → Type 0
 HasRoom s = length s.view.own.seen < 2 ^ 63 - 1
 
 -- The pass goes to this table, its permit is at home, and each entry of its own that it has seen
@@ -28,13 +28,18 @@ abbrev pub IsReady : TableId → PassStanding → Type 0
 IsReady t s = IsHome t s × (owned s.view.number s.front ≡ s.view.calls)
 
 -- baton and pass may serve a call that moves this cell
-abbrev pub MayCall : TableId → Standing → PassStanding → ℕ → Type 0
+abbrev pub MayCall : TableId → BatonStanding → PassStanding → ℕ → Type 0
 MayCall t baton pass cell = IsFree t baton × HasRoom baton × IsReady t pass × IsCell cell
 
 -- each of these passes is ready
 abbrev pub AllReady : TableId → List PassStanding → Type 0
 AllReady t passes =
     (i : ℕ) (d : PassStanding) → i < length passes → IsReady t (slice_index_or passes i d)
+
+-- no look was made with the pass
+abbrev pub HasNotLooked : PassStanding → PassStanding → Type 0
+HasNotLooked old new =
+    (new.view.looks ≡ old.view.looks) × (new.view.own.last ≡ old.view.own.last)
 
 -- the pass keeps its number, and its calls rose by this many
 abbrev pub HasCounted : PassStanding → PassStanding → ℕ → Type 0

@@ -3,7 +3,7 @@
 ghost use Rattle.std.specs.Prelude.{◌≡◌, ◌+◌, ◌++◌, ◌∷◌, [], Some};
 ghost use Rattle.version_cells.specs.Told.{CoversLook};
 ghost use Rattle.version_cells.specs.Standing.{entry_of};
-ghost use Rattle.version_cells_uses.specs.Ready.{IsFree, IsReady, MayCall, HasCounted};
+ghost use Rattle.version_cells_uses.specs.Ready.{IsFree, IsReady, MayCall, HasCounted, HasNotLooked};
 
 use version_cells::{Baton, Cells, Pass};
 
@@ -17,7 +17,7 @@ pub fn one_call(cells: &Cells, baton: &mut Baton, pass: &mut Pass, cell: u32)
         ≡ baton.old.view.own.seen ++ entry_of (cell ∷ []) (Some pass.old.view.number) ∷ [] }
     ensures answered { (pass.new.front ≡ pass.new.view.own.seen)
         × (pass.new.view.own.seen ≡ baton.new.view.own.seen) }
-    ensures counted { HasCounted pass.old pass.new 1 }
+    ensures counted { HasCounted pass.old pass.new 1 × HasNotLooked pass.old pass.new }
     ensures covered { CoversLook baton.old.view pass.old.view.own.last }
 {
     let caller = pass.caller();

@@ -1,11 +1,12 @@
 //! What lies under the lock.
 
-ghost use Rattle.std.specs.Prelude.{◌≡◌, ◌<◌, ◌≤◌, ◌-◌, ◌+◌, [], length, false, true};
+ghost use Rattle.std.specs.Prelude.{◌≡◌, ◌<◌, ◌≤◌, ◌-◌, ◌+◌, [], length, IfOk, IfErr, IsOk};
 ghost use Rattle.version_cells.specs.Entries.{IsCell};
 ghost use Rattle.version_cells_uses.specs.declared.desk.TheConstants.{LIMIT};
 ghost use Rattle.version_cells_uses.specs.Ready.{IsFree, IsReady, HasCounted};
 
 use crate::call::one_call;
+use crate::full::Full;
 use crate::name::Name;
 use std::marker::PhantomData;
 use version_cells::{Baton, Cells, Pass};
@@ -22,6 +23,7 @@ pub struct Desk<N: Name> {
     of: PhantomData<N>,
     ghost free: { IsFree N.table baton },
     ghost counted: { entries ≡ length baton.view.own.seen },
+    ghost room: { entries ≤ LIMIT },
 }
 
 impl<N: Name> Desk<N> {
@@ -38,19 +40,23 @@ impl<N: Name> Desk<N> {
         }
     }
 
-    /// Commits one entry of the pass's caller that moves a cell, unless the limit is met.
-    pub fn call(&mut self, cells: &Cells, pass: &mut Pass, cell: u32) -> bool
+    /// Commits one entry of the pass's caller that moves a cell, and answers the call with it.
+    ///
+    /// `Full`, exactly where the desk has `LIMIT` entries, leaves desk and pass as they were.
+    pub fn call(&mut self, cells: &Cells, pass: &mut Pass, cell: u32) -> Result<(), Full>
         requires may { (cells.now ≡ N.table) × IsReady N.table pass.old × IsCell cell }
         ensures pass { IsReady N.table pass.new }
-        ensures answered { result ≡ true → pass.new.front ≡ pass.new.view.own.seen }
-        ensures counted { result ≡ true → HasCounted pass.old pass.new 1 }
-        ensures refused { result ≡ false → (LIMIT ≤ self.old.entries) × (pass.new ≡ pass.old) }
+        ensures ok { IfOk result (λ _. (self.new.entries ≡ self.old.entries + 1)
+            × HasCounted pass.old pass.new 1 × (pass.new.front ≡ pass.new.view.own.seen)) }
+        ensures full { IfErr result (λ _. (self.old.entries ≡ LIMIT)
+            × (self.new.entries ≡ LIMIT) × (pass.new ≡ pass.old)) }
+        ensures succeeds { self.old.entries < LIMIT → IsOk result }
     {
         if self.entries >= LIMIT {
-            return false;
+            return Err(Full);
         }
         one_call(cells, &mut self.baton, pass, cell);
         self.entries += 1;
-        true
+        Ok(())
     }
 }

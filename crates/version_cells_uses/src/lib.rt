@@ -3,6 +3,7 @@
 
 mod call;
 mod desk;
+mod full;
 mod lent;
 mod name;
 #[cfg(test)]
@@ -11,6 +12,7 @@ mod threads;
 
 pub use call::one_call;
 pub use desk::{Desk, LIMIT};
+pub use full::Full;
 pub use lent::three_entries;
 pub use name::Name;
 pub use threads::{Called, each_calls, turn};

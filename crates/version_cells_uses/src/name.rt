@@ -9,6 +9,7 @@ pub trait Name {
     ghost table: { TableId };
 }
 
+// What stands here is not used: whoever calls a function with `Brand` picks the table in its proof.
 impl Name for Brand {
     ghost use Rattle.version_cells_uses.specs.Ready.{no_table};
 

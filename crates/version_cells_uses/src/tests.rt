@@ -50,7 +50,7 @@ fn a_permit_comes_home_through_several_commits(rt: HostRuntime) -> Result<(), Fa
 }
 
 // Three callers with two calls each: six entries move the cell, and each pass looked twice. Each
-// front ends with the pass's own last entry, so no two are as long, and the longest has all six.
+// front ends with the pass's own last entry, so no two have one length, and the longest has all six.
 #[test]
 fn each_entry_of_three_threads_counts_once(rt: HostRuntime) -> Result<(), Fail> {
     let Ok(called) = each_calls(&rt, rt.alloc(), 3) else {

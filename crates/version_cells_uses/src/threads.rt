@@ -1,10 +1,11 @@
 //! Passes that call on threads of their own.
 
-ghost use Rattle.std.specs.Prelude.{◌≡◌, ◌≤◌, [], IfOk, length};
+ghost use Rattle.std.specs.Prelude.{◌≡◌, ◌≤◌, [], IfOk, IfErr, length};
 ghost use Rattle.version_cells.specs.Entries.{IsCell, turns};
 ghost use Rattle.version_cells_uses.specs.Ready.{IsFree, IsReady, AllReady};
 
 use crate::desk::Desk;
+use crate::full::Full;
 use crate::name::Name;
 use jar_types::NoMemory;
 use std::alloc::Global;
@@ -26,22 +27,25 @@ pub struct Called {
     ghost cutter_ready: { IsReady cells cutter },
 }
 
-/// One call under the desk's lock, and a look outside it that finds at least what was seen.
+/// One call under the lock of the desk, and a look outside it that finds at least what was seen.
+///
+/// `Full` leaves the pass as it was, without a look.
 pub fn turn<N: Name, R: Wait>(
     rt: &R,
     cells: &Cells,
     desk: &Mutex<Desk<N>>,
     pass: &mut Pass,
     cell: u32,
-) -> u64
+) -> Result<u64, Full>
     requires same { cells.now ≡ N.table }
     requires pass { IsReady N.table pass.old }
     requires cell { IsCell cell }
     ensures pass { IsReady N.table pass.new }
-    ensures never_back { turns cell pass.new.view.own.seen ≤ result }
+    ensures never_back { IfOk result (λ found. turns cell pass.new.view.own.seen ≤ found) }
+    ensures full { IfErr result (λ _. pass.new ≡ pass.old) }
 {
-    desk.lock(rt).call(cells, pass, cell);
-    cells.look(pass, cell)
+    desk.lock(rt).call(cells, pass, cell)?;
+    Ok(cells.look(pass, cell))
 }
 
 fn each_named<N: Name + Send + Sync, R: Threads + Wait + Sync>(
@@ -69,15 +73,16 @@ fn each_named<N: Name + Send + Sync, R: Threads + Wait + Sync>(
             requires { (cells.now ≡ N.table) × IsReady N.table pass.now }
             ensures { IsReady N.table pass.exit.now }
         {
-            turn(rt, cells, shared, pass, 5);
-            turn(rt, cells, shared, pass, 5);
+            let _ = turn(rt, cells, shared, pass, 5);
+            let _ = turn(rt, cells, shared, pass, 5);
         },
     );
 }
 
-/// Makes words and passes, and has each pass make two calls on a thread, each moving cell 5.
+/// Makes words and passes, and tries two calls of each pass on a thread, each moving cell 5.
 ///
-/// After them each entry that a pass owns and has seen counts once among its calls.
+/// Each call is made under the lock of one `Desk`. After them each entry that a pass owns and has
+/// seen counts once among its calls, and stands in its front. `NoMemory` leaves nothing behind.
 pub fn each_calls<R: Threads + Wait + Sync>(
     rt: &R,
     alloc: Global,

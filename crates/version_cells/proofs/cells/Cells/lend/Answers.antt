@@ -1,7 +1,7 @@
 use Rattle.std.proofs.Common.{ℕ, sym, ap, ◌∙◌, arith}
 use Rattle.atomic_table.specs.Table.{Me}
 use Rattle.version_cells.specs.declared.view.View.{View}
-use Rattle.version_cells.specs.Standing.{Standing, PassStanding}
+use Rattle.version_cells.specs.Standing.{BatonStanding, PassStanding}
 use Rattle.version_cells.proofs.Fronting.{baton_counts}
 use Rattle.version_cells.proofs.Cuts.{lends}
 use Rattle.version_cells.proofs.Meeting.{baton_takes_as, may_take_one}
@@ -16,17 +16,17 @@ split_seat-copy-requires c = (
 
 pub join_seat-requires : goal.join_seat-requires
 join_seat-requires c = (
-  ap (λ (s : Standing). s.table) c.baton.view_is ∙ c.requires.same.1 ∙ sym c.self.view_is,
+  ap (λ (s : BatonStanding). s.table) c.baton.view_is ∙ c.requires.same.1 ∙ sym c.self.view_is,
   c.split_seat-copy.ensures.3 ∙ ap (λ (s : PassStanding). s.table) c.pass.view_is ∙ c.requires.same.0 ∙ sym c.self.view_is,
   ap (λ (m : Me ℕ View). m.1) c.split_seat-copy.ensures.4,
   (let w = c.self.invariant in omega arith),
   baton_takes_as _ _ _ _ _ _ c.baton.invariant.0 c.split_seat-copy.ensures.4
-      (may_take_one _ _ (ap (λ (s : Standing). s.view.permit) c.baton.view_is ∙ c.requires.free.1)),
+      (may_take_one _ _ (ap (λ (s : BatonStanding). s.view.permit) c.baton.view_is ∙ c.requires.free.1)),
 )
 
 pub load-requires : goal.load-requires
 load-requires c = (
-  c.join_seat.ensures.0 ∙ ap (λ (s : Standing). s.table) c.baton.view_is ∙ c.requires.same.1 ∙ sym c.self.view_is,
+  c.join_seat.ensures.0 ∙ ap (λ (s : BatonStanding). s.table) c.baton.view_is ∙ c.requires.same.1 ∙ sym c.self.view_is,
   (let w = c.self.invariant in omega arith),
   baton_counts _ _ _ (ap (λ (m : Me ℕ View). m.0.kind) c.join_seat.ensures.2 ∙ c.baton.invariant.0) (ap (λ (m : Me ℕ View). m.1) c.join_seat.ensures.2 ∙ c.baton.invariant.1),
 )

@@ -1,21 +1,21 @@
-use Rattle.std.proofs.Common.{◌≡◌, ◌-◌, ◌^◌, ℕ, List, length, min, take, sym, ap, ◌∙◌, arith, subst}
+use Rattle.std.proofs.Common.{◌≡◌, ◌-◌, ◌^◌, ℕ, List, length, min, take, sym, ap, ap₂, ◌∙◌, arith, subst}
+use Rattle.atomic_table.specs.Seated.{TableId}
 use Rattle.atomic_table.specs.Table.{Me}
 use Rattle.version_cells.specs.declared.entry.Entry.{Entry}
-use Rattle.version_cells.specs.declared.view.Look.{Look}
 use Rattle.version_cells.specs.declared.view.View.{View}
 use Rattle.version_cells.specs.Moves.{without_permit, pass_copy, baton_with_copy, pass_with_copy}
-use Rattle.version_cells.specs.Standing.{Standing, PassStanding}
-use Rattle.version_cells.specs.Told.{ComesHome, Met}
+use Rattle.version_cells.specs.Standing.{BatonStanding, PassStanding, baton_with_view, pass_with_view}
+use Rattle.version_cells.specs.Told.{ComesHome, pass_after_meet, baton_after_meet, Met}
 use Rattle.version_cells.specs.Answered.{IsFront}
 use Rattle.version_cells.proofs.Prefixes.{starts_length, begun_take}
 use Rattle.version_cells.proofs.Fronting.{fronts, baton_counts}
 use Rattle.version_cells.proofs.Cuts.{gives_permit, copies_pass}
-use Rattle.version_cells.proofs.Meeting.{baton_takes_as, pass_takes_as, may_take_one, own_home, meets}
+use Rattle.version_cells.proofs.Meeting.{baton_takes_as, pass_takes_as, may_take_one, own_home, MeetingOf, meets}
 use Rattle.version_cells.proofs.cells.Cells.meet.Goals as goal
 
 pub split_seat-copy-requires : goal.split_seat-copy-requires
 split_seat-copy-requires c = (
-  ap (λ (s : Standing). s.table) c.baton.view_is ∙ c.requires.same.1 ∙ sym c.self.view_is,
+  ap (λ (s : BatonStanding). s.table) c.baton.view_is ∙ c.requires.same.1 ∙ sym c.self.view_is,
   (let w = c.self.invariant in omega arith),
   gives_permit _ _ c.baton.invariant.0,
 )
@@ -23,12 +23,12 @@ split_seat-copy-requires c = (
 pub join_seat-requires : goal.join_seat-requires
 join_seat-requires c = (
   ap (λ (s : PassStanding). s.table) c.pass.view_is ∙ c.requires.same.0 ∙ sym c.self.view_is,
-  c.split_seat-copy.ensures.3 ∙ ap (λ (s : Standing). s.table) c.baton.view_is ∙ c.requires.same.1 ∙ sym c.self.view_is,
+  c.split_seat-copy.ensures.3 ∙ ap (λ (s : BatonStanding). s.table) c.baton.view_is ∙ c.requires.same.1 ∙ sym c.self.view_is,
   ap (λ (m : Me ℕ View). m.1) c.split_seat-copy.ensures.4,
   (let w = c.self.invariant in omega arith),
   pass_takes_as _ _ _ _ _ _ c.pass.invariant.1.is_pass c.split_seat-copy.ensures.4
       (own_home _ _ _ (subst (λ (s : PassStanding). ComesHome s.view.number s.view.away c.baton.inside.seat.me.0.permit) (sym c.pass.view_is)
-      (subst (λ (s : Standing). ComesHome c.args.pass.now.view.number c.args.pass.now.view.away s.view.permit) (sym c.baton.view_is) c.requires.home))),
+      (subst (λ (s : BatonStanding). ComesHome c.args.pass.now.view.number c.args.pass.now.view.away s.view.permit) (sym c.baton.view_is) c.requires.home))),
 )
 
 pub load-found-requires : goal.load-found-requires
@@ -47,7 +47,7 @@ split_seat-note-requires c = (
 
 pub join_seat-requires-2 : goal.join_seat-requires-2
 join_seat-requires-2 c = (
-  c.split_seat-copy.ensures.0 ∙ ap (λ (s : Standing). s.table) c.baton.view_is ∙ c.requires.same.1 ∙ sym c.self.view_is,
+  c.split_seat-copy.ensures.0 ∙ ap (λ (s : BatonStanding). s.table) c.baton.view_is ∙ c.requires.same.1 ∙ sym c.self.view_is,
   c.split_seat-note.ensures.3 ∙ c.load-found.ensures.0 ∙ c.join_seat.ensures.0 ∙ ap (λ (s : PassStanding). s.table) c.pass.view_is ∙ c.requires.same.0 ∙ sym c.self.view_is,
   ap (λ (m : Me ℕ View). m.1) c.split_seat-note.ensures.4,
   (let w = c.self.invariant in omega arith),
@@ -57,7 +57,7 @@ join_seat-requires-2 c = (
 
 pub load-requires : goal.load-requires
 load-requires c = (
-  c.join_seat-2.ensures.0 ∙ c.split_seat-copy.ensures.0 ∙ ap (λ (s : Standing). s.table) c.baton.view_is ∙ c.requires.same.1 ∙ sym c.self.view_is,
+  c.join_seat-2.ensures.0 ∙ c.split_seat-copy.ensures.0 ∙ ap (λ (s : BatonStanding). s.table) c.baton.view_is ∙ c.requires.same.1 ∙ sym c.self.view_is,
   (let w = c.self.invariant in omega arith),
   baton_counts _ _ _
       (ap (λ (m : Me ℕ View). m.0.kind) c.join_seat-2.ensures.2 ∙ ap (λ (m : Me ℕ View). m.0.kind) c.split_seat-copy.ensures.2 ∙ c.baton.invariant.0)
@@ -65,14 +65,14 @@ load-requires c = (
 )
 
 -- pass and baton after the meeting
-met_here : (c : goal.After-load) → Met c.pass.inside.seat.me.0 c.baton.inside.seat.me.0 c.split_seat-note.new.seat.me.0 c.load.new.seat.me.0
-met_here c =
+meeting : (c : goal.After-load) → MeetingOf c.pass.inside.seat.me.0 c.baton.inside.seat.me.0 c.split_seat-note.new.seat.me.0 c.load.new.seat.me.0
+meeting c =
     let p : View = c.pass.inside.seat.me.0 in let b : View = c.baton.inside.seat.me.0 in
     let front_of = ap (λ (m : Me ℕ View). m.0) c.split_seat-note.ensures.2 in
-    subst (λ (v : View). Met p b c.split_seat-note.new.seat.me.0 v) (ap (λ (m : Me ℕ View). m.0) (sym c.load.ensures.2.0))
+    subst (λ (v : View). MeetingOf p b c.split_seat-note.new.seat.me.0 v) (ap (λ (m : Me ℕ View). m.0) (sym c.load.ensures.2.0))
     (meets p b c.join_seat.new.seat.me.0 c.split_seat-note.new.seat.me.0 c.join_seat-2.new.seat.me.0 c.load-found.result
     (subst (λ (s : PassStanding). ComesHome s.view.number s.view.away b.permit) (sym c.pass.view_is)
-    (subst (λ (s : Standing). ComesHome c.args.pass.now.view.number c.args.pass.now.view.away s.view.permit) (sym c.baton.view_is) c.requires.home))
+    (subst (λ (s : BatonStanding). ComesHome c.args.pass.now.view.number c.args.pass.now.view.away s.view.permit) (sym c.baton.view_is) c.requires.home))
     (ap (λ (m : Me ℕ View). m.0) c.join_seat.ensures.2 ∙ ap (λ (m : Me ℕ View). pass_with_copy p m.0) c.split_seat-copy.ensures.4)
     (front_of ∙ ap (λ (m : Me ℕ View). m.0) c.load-found.ensures.2.0)
     c.load-found.ensures.2.1
@@ -83,28 +83,52 @@ met_here c =
     c.load.ensures.2.2)
 
 -- the front is the same first part of what is seen now
-kept_front : (c : goal.After-load) → Met c.pass.inside.seat.me.0 c.baton.inside.seat.me.0 c.split_seat-note.new.seat.me.0 c.load.new.seat.me.0
-    → take c.pass.inside.front c.split_seat-note.new.seat.me.0.own.seen ≡ take c.pass.inside.front c.pass.inside.seat.me.0.own.seen
-kept_front c met = begun_take c.pass.inside.front _ _ met.begins (let b = c.pass.invariant.1.within in let d = c.pass.invariant.1.has_seen in omega arith)
+kept_front : (c : goal.After-load) → take c.pass.inside.front c.split_seat-note.new.seat.me.0.own.seen ≡ take c.pass.inside.front c.pass.inside.seat.me.0.own.seen
+kept_front c =
+    let m = meeting c in
+    ap (λ (v : View). take c.pass.inside.front v.own.seen) m.pass
+    ∙ begun_take c.pass.inside.front _ _ m.met.begins (let b = c.pass.invariant.1.within in let d = c.pass.invariant.1.has_seen in omega arith)
 
 pub invariant_of-pass : goal.invariant_of-pass
 invariant_of-pass c =
-    let met = met_here c in
+    let m = meeting c in
     let old = c.pass.invariant.1 in
-    let has_found : c.load-found.result ≡ c.split_seat-note.new.seat.me.0.own.found =
-    ap (λ (m : Me ℕ View). m.0.own.found) (sym (c.split_seat-note.ensures.2 ∙ c.load-found.ensures.2.0)) in (
+    let is_found : c.load-found.result ≡ c.split_seat-note.new.seat.me.0.own.found =
+    ap (λ (m : Me ℕ View). m.0.own.found) (sym (c.split_seat-note.ensures.2 ∙ c.load-found.ensures.2.0)) in
+    let found : c.load-found.result ≡ length c.baton.inside.seat.me.0.own.seen = is_found ∙ ap (λ (v : View). v.own.found) m.pass in (
       ap (λ (m : Me ℕ View). m.1) c.split_seat-note.ensures.2 ∙ ap (λ (m : Me ℕ View). m.1) c.load-found.ensures.2.0,
       record {
-        is_pass = ap (λ (m : Me ℕ View). m.0.kind) c.split_seat-note.ensures.2 ∙ ap (λ (m : Me ℕ View). m.0.kind) c.load-found.ensures.2.0 ∙ ap (λ (m : Me ℕ View). m.0.kind) c.join_seat.ensures.2 ∙ old.is_pass;
-        numbered = met.number ∙ old.numbered;
-        has_looked = old.has_looked ∙ ap (λ (l : List Look). min (length l) (2 ^ 64 - 1)) (sym met.looks);
-        has_seen = has_found ∙ met.found;
-        within = (let a = starts_length _ _ met.begins in let b = old.within in let d = old.has_seen in let e : c.load-found.result ≡ length c.split_seat-note.new.seat.me.0.own.seen = has_found ∙ met.found in omega arith);
-        is_front = subst (λ (l : List Entry). IsFront c.pass.inside.caller l) (sym (kept_front c met)) old.is_front;
+        is_pass = ap (λ (v : View). v.kind) m.pass ∙ old.is_pass;
+        numbered = ap (λ (v : View). v.number) m.pass ∙ old.numbered;
+        has_looked = old.has_looked ∙ ap (λ (v : View). min (length v.looks) (2 ^ 64 - 1)) (sym m.pass);
+        has_seen = found ∙ ap (λ (v : View). length v.own.seen) (sym m.pass);
+        within = (let a = starts_length _ _ m.met.begins in let b = old.within in let d = old.has_seen in let e = found in omega arith);
+        is_front = subst (λ (l : List Entry). IsFront c.pass.inside.caller l) (sym (kept_front c)) old.is_front;
       },
     )
 
+abbrev pass_of : TableId → View → List Entry → PassStanding
+pass_of t v front = record { table = t; view = v; front = front }
+
+pub returns-clause-pass : goal.returns-clause-pass
+returns-clause-pass c =
+    let m = meeting c in let old = c.pass.inside.seat in let new = c.split_seat-note.new.seat in
+    ap (λ (t : TableId). pass_of t new.me.0 (take c.pass.inside.front new.me.0.own.seen)) (c.split_seat-note.ensures.0 ∙ c.load-found.ensures.0 ∙ c.join_seat.ensures.0)
+    ∙ ap (λ (l : List Entry). pass_of old.table_id new.me.0 l) (kept_front c)
+    ∙ ap (λ (v : View). pass_of old.table_id v (take c.pass.inside.front old.me.0.own.seen)) m.pass
+    ∙ ap₂ (λ (s : PassStanding) (t : BatonStanding). pass_with_view s (pass_after_meet s.view t.view)) c.pass.view_is c.baton.view_is
+
+abbrev baton_of : TableId → View → BatonStanding
+baton_of t v = record { table = t; view = v }
+
+pub returns-clause-baton : goal.returns-clause-baton
+returns-clause-baton c =
+    let m = meeting c in let old = c.baton.inside.seat in
+    ap (λ (t : TableId). baton_of t c.load.new.seat.me.0) (c.load.ensures.0 ∙ c.join_seat-2.ensures.0 ∙ c.split_seat-copy.ensures.0)
+    ∙ ap (λ (v : View). baton_of old.table_id v) m.baton
+    ∙ ap₂ (λ (s : PassStanding) (t : BatonStanding). baton_with_view t (baton_after_meet t.view s.view)) c.pass.view_is c.baton.view_is
+
 pub returns-clause-met : goal.returns-clause-met
 returns-clause-met c =
-    subst (λ (s : PassStanding). Met s.view c.args.baton.now.view c.split_seat-note.new.seat.me.0 c.load.new.seat.me.0) c.pass.view_is
-    (subst (λ (s : Standing). Met c.pass.inside.seat.me.0 s.view c.split_seat-note.new.seat.me.0 c.load.new.seat.me.0) c.baton.view_is (met_here c))
+    subst (λ (s : PassStanding). Met s.view c.args.baton.now.view) c.pass.view_is
+    (subst (λ (s : BatonStanding). Met c.pass.inside.seat.me.0 s.view) c.baton.view_is (meeting c).met)
