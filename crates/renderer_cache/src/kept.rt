@@ -11,7 +11,7 @@ use jar_types::Text;
 pub struct Kept {
     /// The cell, of 1 to 4,096.
     pub cell: u32,
-    /// How many entries had moved the cell.
+    /// The version at which the text was the answer: how many entries had moved the cell.
     pub version: u64,
     /// The moment from which the text is late, in milliseconds since 1970.
     pub until: u64,

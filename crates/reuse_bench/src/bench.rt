@@ -1,6 +1,7 @@
 //! The word, the cells and the kept text that the loops use.
 
-ghost use Rattle.std.specs.Prelude.{◌≡◌, ◌<◌, ◌-◌, ◌^◌, IfOk, length, min};
+ghost use Rattle.std.specs.Prelude.{◌≡◌, ◌<◌, ◌-◌, ◌^◌, [], IfOk, length, min};
+ghost use Rattle.reuse_bench.specs.declared.bench.TheConstants.{CELL};
 ghost use Rattle.reuse_bench.specs.Looked.{HasLooked, looks_of};
 
 use crate::task::Task;
@@ -31,7 +32,9 @@ pub struct Bench {
 impl Bench {
     /// The word and the cell, which one entry moved, and the kept text.
     pub fn make(alloc: Global) -> Result<Bench, NoMemory>
-        ensures until { IfOk result (λ bench. bench.kept.value.until ≡ 1) }
+        ensures kept { IfOk result (λ bench. (bench.kept.value.cell ≡ CELL)
+            × (bench.kept.value.version ≡ 1) × (bench.kept.value.until ≡ 1)) }
+        ensures unlooked { IfOk result (λ bench. bench.pass.view.looks ≡ []) }
     {
         let Made {
             cells,

@@ -1,9 +1,10 @@
 -- When a pass and the baton may serve a call, and what a call leaves.
 -- This jar's own rule: docs/DEFINITIONS.md.
-use Rattle.std.specs.Prelude.{◌≡◌, ◌<◌, ◌-◌, ◌+◌, ◌^◌, ℕ, List, [], length, slice_index_or, false, None}
+use Rattle.std.specs.Prelude.{◌≡◌, ◌<◌, ◌-◌, ◌+◌, ◌^◌, ℕ, List, [], ◌∷◌, ◌++◌, length, slice_index_or, false, Some, None}
 use Rattle.atomic_table.specs.Seated.{TableId}
+use Rattle.version_cells.specs.declared.entry.Entry.{Entry}
 use Rattle.version_cells.specs.Entries.{IsCell, owned}
-use Rattle.version_cells.specs.Standing.{BatonStanding, PassStanding}
+use Rattle.version_cells.specs.Standing.{BatonStanding, PassStanding, entry_of}
 
 -- the identity that stands for no table
 abbrev pub no_table : TableId
@@ -36,12 +37,25 @@ abbrev pub AllReady : TableId → List PassStanding → Type 0
 AllReady t passes =
     (i : ℕ) (d : PassStanding) → i < length passes → IsReady t (slice_index_or passes i d)
 
--- no look was made with the pass
-abbrev pub HasNotLooked : PassStanding → PassStanding → Type 0
-HasNotLooked old new =
-    (new.view.looks ≡ old.view.looks) × (new.view.own.last ≡ old.view.own.last)
-
 -- the pass keeps its number, and its calls rose by this many
 abbrev pub HasCounted : PassStanding → PassStanding → ℕ → Type 0
 HasCounted old new more =
     (new.view.number ≡ old.view.number) × (new.view.calls ≡ old.view.calls + more)
+
+-- the pass met the baton once, and made no look
+abbrev pub HasMetOnce : PassStanding → PassStanding → Type 0
+HasMetOnce old new = (new.view.fronts ≡ old.view.fronts + 1)
+    × (new.view.looks ≡ old.view.looks) × (new.view.own.last ≡ old.view.own.last)
+
+-- one call of the pass was made and answered, by one meeting and without a look
+abbrev pub HasCalled : PassStanding → PassStanding → Type 0
+HasCalled old new =
+    HasCounted old new 1 × HasMetOnce old new × (new.front ≡ new.view.own.seen)
+
+-- the entry of a call of the pass that moves this cell
+abbrev pub call_of : PassStanding → ℕ → Entry
+call_of s cell = entry_of (cell ∷ []) (Some s.view.number)
+
+-- what the pass has seen ends with this entry
+abbrev pub EndsWith : PassStanding → Entry → Type 0
+EndsWith s e = (before : List Entry) × (s.view.own.seen ≡ before ++ e ∷ [])

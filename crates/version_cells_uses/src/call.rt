@@ -1,9 +1,8 @@
 //! One call of a pass's caller.
 
-ghost use Rattle.std.specs.Prelude.{◌≡◌, ◌+◌, ◌++◌, ◌∷◌, [], Some};
+ghost use Rattle.std.specs.Prelude.{◌≡◌, ◌++◌, ◌∷◌, []};
 ghost use Rattle.version_cells.specs.Told.{CoversLook};
-ghost use Rattle.version_cells.specs.Standing.{entry_of};
-ghost use Rattle.version_cells_uses.specs.Ready.{IsFree, IsReady, MayCall, HasCounted, HasNotLooked};
+ghost use Rattle.version_cells_uses.specs.Ready.{IsFree, IsReady, MayCall, HasCalled, call_of};
 
 use version_cells::{Baton, Cells, Pass};
 
@@ -14,10 +13,9 @@ pub fn one_call(cells: &Cells, baton: &mut Baton, pass: &mut Pass, cell: u32)
     requires may { MayCall cells.now baton.old pass.old cell }
     ensures ready { IsFree cells.now baton.new × IsReady cells.now pass.new }
     ensures added { baton.new.view.own.seen
-        ≡ baton.old.view.own.seen ++ entry_of (cell ∷ []) (Some pass.old.view.number) ∷ [] }
-    ensures answered { (pass.new.front ≡ pass.new.view.own.seen)
-        × (pass.new.view.own.seen ≡ baton.new.view.own.seen) }
-    ensures counted { HasCounted pass.old pass.new 1 × HasNotLooked pass.old pass.new }
+        ≡ baton.old.view.own.seen ++ call_of pass.old cell ∷ [] }
+    ensures seen { pass.new.view.own.seen ≡ baton.new.view.own.seen }
+    ensures called { HasCalled pass.old pass.new }
     ensures covered { CoversLook baton.old.view pass.old.view.own.last }
 {
     let caller = pass.caller();

@@ -3,16 +3,29 @@
 ghost use Rattle.std.specs.Prelude.{◌≡◌, ◌<◌, ◌≤◌, ◌-◌, ◌+◌, [], length, IfOk, IfErr, IsOk};
 ghost use Rattle.version_cells.specs.Entries.{IsCell};
 ghost use Rattle.version_cells_uses.specs.declared.desk.TheConstants.{LIMIT};
-ghost use Rattle.version_cells_uses.specs.Ready.{IsFree, IsReady, HasCounted};
+ghost use Rattle.version_cells_uses.specs.Ready.{IsFree, IsReady, HasCalled, EndsWith, call_of};
 
 use crate::call::one_call;
-use crate::full::Full;
 use crate::name::Name;
+use std::error::Error;
+use std::fmt;
 use std::marker::PhantomData;
 use version_cells::{Baton, Cells, Pass};
 
 /// How many entries a desk takes.
 pub const LIMIT: u64 = 1_000_000;
+
+/// The desk has as many entries as it takes. A desk alone makes one.
+#[derive(Clone, Copy, Debug)]
+pub struct Full(());
+
+impl fmt::Display for Full {
+    fn fmt<W: fmt::Write>(&self, f: &mut fmt::Formatter<W>) -> fmt::Result {
+        write!(f, "the desk is full")
+    }
+}
+
+impl Error for Full {}
 
 /// The baton of the named table, free of cells and permits, with the number of its entries.
 #[derive(Drop)]
@@ -47,13 +60,14 @@ impl<N: Name> Desk<N> {
         requires may { (cells.now ≡ N.table) × IsReady N.table pass.old × IsCell cell }
         ensures pass { IsReady N.table pass.new }
         ensures ok { IfOk result (λ _. (self.new.entries ≡ self.old.entries + 1)
-            × HasCounted pass.old pass.new 1 × (pass.new.front ≡ pass.new.view.own.seen)) }
+            × HasCalled pass.old pass.new) }
+        ensures moved { IfOk result (λ _. EndsWith pass.new (call_of pass.old cell)) }
         ensures full { IfErr result (λ _. (self.old.entries ≡ LIMIT)
             × (self.new.entries ≡ LIMIT) × (pass.new ≡ pass.old)) }
         ensures succeeds { self.old.entries < LIMIT → IsOk result }
     {
         if self.entries >= LIMIT {
-            return Err(Full);
+            return Err(Full(()));
         }
         one_call(cells, &mut self.baton, pass, cell);
         self.entries += 1;

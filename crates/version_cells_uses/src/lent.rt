@@ -1,19 +1,23 @@
 //! A permit that is lent for several commits.
 
-ghost use Rattle.std.specs.Prelude.{◌≡◌, ◌<◌, ◌-◌, ◌^◌, ◌+◌, length};
-ghost use Rattle.version_cells_uses.specs.Ready.{IsFree, IsHome, MayCall, HasCounted};
+ghost use Rattle.std.specs.Prelude.{◌≡◌, ◌<◌, ◌-◌, ◌^◌, ◌∷◌, ◌++◌, [], length, None};
+ghost use Rattle.version_cells.specs.Standing.{entry_of};
+ghost use Rattle.version_cells_uses.specs.Ready.{IsFree, IsHome, MayCall, HasCounted, HasMetOnce, call_of};
 
 use version_cells::{Baton, Cells, Pass};
 
-/// Commits two entries of the pass's caller and one of nobody while its permit is lent.
+/// Commits two entries of the pass's caller that move a cell, and between them one of nobody that
+/// moves none, while the permit is lent.
 ///
 /// No call is answered by them, so the pass's front stays.
 pub fn three_entries(cells: &Cells, baton: &mut Baton, pass: &mut Pass, cell: u32)
     requires may { MayCall cells.now baton.old pass.old cell }
     requires room { length baton.old.view.own.seen < 2 ^ 63 - 3 }
     ensures home { IsFree cells.now baton.new × IsHome cells.now pass.new }
-    ensures longer { length baton.new.view.own.seen ≡ length baton.old.view.own.seen + 3 }
-    ensures counted { HasCounted pass.old pass.new 2 }
+    ensures added { baton.new.view.own.seen ≡ baton.old.view.own.seen
+        ++ call_of pass.old cell ∷ entry_of [] None ∷ call_of pass.old cell ∷ [] }
+    ensures seen { pass.new.view.own.seen ≡ baton.new.view.own.seen }
+    ensures counted { HasCounted pass.old pass.new 2 × HasMetOnce pass.old pass.new }
     ensures front { pass.new.front ≡ pass.old.front }
 {
     let caller = pass.caller();

@@ -3,7 +3,6 @@
 
 mod call;
 mod desk;
-mod full;
 mod lent;
 mod name;
 #[cfg(test)]
@@ -11,8 +10,7 @@ mod tests;
 mod threads;
 
 pub use call::one_call;
-pub use desk::{Desk, LIMIT};
-pub use full::Full;
+pub use desk::{Desk, Full, LIMIT};
 pub use lent::three_entries;
 pub use name::Name;
 pub use threads::{Called, each_calls, turn};

@@ -1,11 +1,12 @@
 //! Passes that call on threads of their own.
 
-ghost use Rattle.std.specs.Prelude.{◌≡◌, ◌≤◌, [], IfOk, IfErr, length};
+ghost use Rattle.std.specs.Prelude.{◌≡◌, ◌≤◌, [], ◌∷◌, ◌++◌, IfOk, IfErr, length};
 ghost use Rattle.version_cells.specs.Entries.{IsCell, turns};
-ghost use Rattle.version_cells_uses.specs.Ready.{IsFree, IsReady, AllReady};
+ghost use Rattle.version_cells.specs.Moves.{look_of};
+ghost use Rattle.version_cells.specs.Standing.{new_pass_standing};
+ghost use Rattle.version_cells_uses.specs.Ready.{IsFree, IsReady, AllReady, HasCounted, EndsWith, call_of};
 
-use crate::desk::Desk;
-use crate::full::Full;
+use crate::desk::{Desk, Full};
 use crate::name::Name;
 use jar_types::NoMemory;
 use std::alloc::Global;
@@ -41,6 +42,10 @@ pub fn turn<N: Name, R: Wait>(
     requires pass { IsReady N.table pass.old }
     requires cell { IsCell cell }
     ensures pass { IsReady N.table pass.new }
+    ensures called { IfOk result (λ _. HasCounted pass.old pass.new 1
+        × (pass.new.front ≡ pass.new.view.own.seen) × EndsWith pass.new (call_of pass.old cell)) }
+    ensures looked { IfOk result (λ found. pass.new.view.looks
+        ≡ pass.old.view.looks ++ look_of pass.new.view cell found ∷ []) }
     ensures never_back { IfOk result (λ found. turns cell pass.new.view.own.seen ≤ found) }
     ensures full { IfErr result (λ _. pass.new ≡ pass.old) }
 {
@@ -89,6 +94,7 @@ pub fn each_calls<R: Threads + Wait + Sync>(
     callers: u32,
 ) -> Result<Called, NoMemory>
     ensures all { IfOk result (λ c. length c.passes.items ≡ callers) }
+    ensures cutter { IfOk result (λ c. c.cutter ≡ new_pass_standing c.cells callers) }
     ensures ready { IfOk result (λ c. AllReady c.cells c.passes.items) }
 {
     let Made {
