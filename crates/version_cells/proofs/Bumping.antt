@@ -19,7 +19,8 @@ turns_le : (c : ℕ) (log : List Entry) → turns c log ≤ length log
 turns_le c log = total_of_ones (λ (e : Entry). has c (cells_of e)) log
 
 -- the word of a cell, and one more once it is bumped
-pub fresh_word : (words : List ℕ) (views : List View) (id : ℕ) (v : View) (c : ℕ) → RuleAt words views id v → 0 < c → c ≤ 4096 → has c v.pending ≡ false
+pub fresh_word : (words : List ℕ) (views : List View) (id : ℕ) (v : View) (c : ℕ)
+    → RuleAt words views id v → 0 < c → c ≤ 4096 → has c v.pending ≡ false
     → (slice_index words c ≡ turns c v.own.seen) × ((slice_index words c + 1) % 2 ^ 64 ≡ turns c v.own.seen + 1)
 fresh_word words views id v c k low high fresh =
     let w = k.versions c low high in
@@ -32,8 +33,11 @@ fresh_word words views id v c k low high fresh =
     below : (a b : ℕ) → a ≤ b → b < 2 ^ 63 → a < 2 ^ 63
     below a b h l = omega arith
 
-bumped_words : (words : List ℕ) (views : List View) (id : ℕ) (v : View) (c new : ℕ) → RuleAt words views id v → 0 < c → c ≤ 4096 → has c v.pending ≡ false → new ≡ turns c v.own.seen + 1
-    → (d : ℕ) → 0 < d → d ≤ 4096 → slice_index (set words c new) d ≡ turns d v.own.seen + one (has d (c ∷ v.pending))
+bumped_words : (words : List ℕ) (views : List View) (id : ℕ) (v : View) (c new : ℕ)
+    → RuleAt words views id v → 0 < c → c ≤ 4096 → has c v.pending ≡ false
+    → new ≡ turns c v.own.seen + 1
+    → (d : ℕ) → 0 < d → d ≤ 4096
+    → slice_index (set words c new) d ≡ turns d v.own.seen + one (has d (c ∷ v.pending))
 bumped_words words views id v c new k low high fresh is d dlow dhigh = ⊎_elim
     (λ (e : d ≡ c). subst (λ x. slice_index (set words c new) x ≡ turns x v.own.seen + one (has x (c ∷ v.pending))) (sym e)
     (here words c new (let z = k.size in omega arith) ∙ is ∙ ap (λ b. turns c v.own.seen + one (b || has c v.pending)) (sym (eq-eqb c c refl))))
@@ -41,7 +45,8 @@ bumped_words words views id v c new k low high fresh is d dlow dhigh = ⊎_elim
     ∙ ap (λ b. turns d v.own.seen + one (b || has d v.pending)) (sym (ne_eqb c d (λ e. n (sym e)))))
     (cases_eq d c)
 
-pub bump_kept : (words : List ℕ) (views : List View) (id : ℕ) (v : View) (c : ℕ) → RuleAt words views id v → 0 < c → c ≤ 4096 → has c v.pending ≡ false
+pub bump_kept : (words : List ℕ) (views : List View) (id : ℕ) (v : View) (c : ℕ)
+    → RuleAt words views id v → 0 < c → c ≤ 4096 → has c v.pending ≡ false
     → RuleAt (set words c ((slice_index words c + 1) % 2 ^ 64)) (set views id (after_bump v c)) id (after_bump v c)
 bump_kept words views id v c k low high fresh =
     let new : ℕ = (slice_index words c + 1) % 2 ^ 64 in
@@ -54,7 +59,8 @@ bump_kept words views id v c k low high fresh =
     (all_grow words (set words c new) v.own.seen v.own.seen (memories v) (starts_itself v.own.seen) up (k.remembered id v k.at_seat))
     refl (λ n. refl) (λ n. refl) (λ n. refl)
 
-pub bumps : (slots id : ℕ) (me : Me ℕ View) (c : ℕ) → me.0.kind ≡ Baton → me.1 ≡ [] → 0 < c → c ≤ 4096 → has c me.0.pending ≡ false
+pub bumps : (slots id : ℕ) (me : Me ℕ View) (c : ℕ) → me.0.kind ≡ Baton → me.1 ≡ [] → 0 < c
+    → c ≤ 4096 → has c me.0.pending ≡ false
     → Allows {S = ℕ} {V = View} Holding slots id me c (λ n. (n + 1) % 2 ^ 64) (λ n after. after ≡ (after_bump me.0 c, []))
 bumps slots id me c kind clean low high fresh s r homes at fits = (
   after_bump me.0 c,

@@ -16,7 +16,8 @@ use Rattle.version_cells.proofs.Keeping.{seated, baton_moves}
 use Rattle.version_cells.proofs.Steps.{Holding, counted_up}
 
 -- a use is counted where the entry has an owner
-used_permits : (o : Option ℕ) (p : Option Permit) (n : ℕ) → is_permit_of n (permit_after o p) ≡ is_permit_of n p
+used_permits : (o : Option ℕ) (p : Option Permit) (n : ℕ)
+    → is_permit_of n (permit_after o p) ≡ is_permit_of n p
 used_permits None p n = refl
 used_permits (Some m) None n = refl
 used_permits (Some m) (Some p) n = refl
@@ -25,13 +26,16 @@ cond_more : (b : Bool) (x : ℕ) → cond b (x + 1) 0 ≡ cond b x 0 + one b
 cond_more true x = refl
 cond_more false x = refl
 
-used_account : (o : Option ℕ) (p : Option Permit) (n : ℕ) → IsAllowed o p → cond (is_permit_of n (permit_after o p)) (uses_of (permit_after o p)) 0 ≡ cond (is_permit_of n p) (uses_of p) 0 + one (is_owner n o)
+used_account : (o : Option ℕ) (p : Option Permit) (n : ℕ) → IsAllowed o p
+    → cond (is_permit_of n (permit_after o p)) (uses_of (permit_after o p)) 0 ≡ cond (is_permit_of n p) (uses_of p) 0 + one (is_owner n o)
 used_account None p n h = sym (add-zero _)
 used_account (Some m) None n h = absurd h
 used_account (Some m) (Some p) n h = cond_more (p.number == n) p.uses ∙ ap (λ x. cond (p.number == n) p.uses 0 + one (x == n)) h
 
-committed_words : (words : List ℕ) (views : List View) (id : ℕ) (v : View) (e : Entry) (new : ℕ) → RuleAt words views id v → ((c : ℕ) → has c v.pending ≡ has c (cells_of e))
-    → (d : ℕ) → 0 < d → d ≤ 4096 → slice_index (set words 0 new) d ≡ turns d (v.own.seen ++ e ∷ []) + 0
+committed_words : (words : List ℕ) (views : List View) (id : ℕ) (v : View) (e : Entry) (new : ℕ)
+    → RuleAt words views id v → ((c : ℕ) → has c v.pending ≡ has c (cells_of e))
+    → (d : ℕ) → 0 < d → d ≤ 4096
+    → slice_index (set words 0 new) d ≡ turns d (v.own.seen ++ e ∷ []) + 0
 committed_words words views id v e new k just d low high =
     elsewhere words 0 d new (λ x. omega arith) ∙ k.versions d low high ∙ ap (λ b. turns d v.own.seen + one b) (just d)
     ∙ sym (total_push (λ (x : Entry). one (has d (cells_of x))) v.own.seen e) ∙ sym (add-zero _)
@@ -39,7 +43,8 @@ committed_words words views id v e new k just d low high =
 shuffle : (a b c o u x : ℕ) → b ≡ c + x → u ≡ o + x → a + b + o ≡ a + c + u
 shuffle a b c o u x h e = omega arith
 
-pub commit_kept : (words : List ℕ) (views : List View) (id : ℕ) (v : View) (e : Entry) → RuleAt words views id v → MayCommit v e
+pub commit_kept : (words : List ℕ) (views : List View) (id : ℕ) (v : View) (e : Entry)
+    → RuleAt words views id v → MayCommit v e
     → RuleAt (set words 0 ((slice_index words 0 + 1) % 2 ^ 64)) (set views id (after_commit v e)) id (after_commit v e)
 commit_kept words views id v e k may =
     let new : ℕ = (slice_index words 0 + 1) % 2 ^ 64 in
@@ -68,7 +73,8 @@ commit_kept words views id v e k may =
     room : (a : ℕ) → a < 2 ^ 63 - 1 → a + 1 < 2 ^ 63
     room a h = omega arith
 
-pub commits : (e : Entry) (slots id : ℕ) (me : Me ℕ View) → me.0.kind ≡ Baton → me.1 ≡ [] → MayCommit me.0 e
+pub commits : (e : Entry) (slots id : ℕ) (me : Me ℕ View) → me.0.kind ≡ Baton → me.1 ≡ []
+    → MayCommit me.0 e
     → Allows {S = ℕ} {V = View} Holding slots id me 0 (λ n. (n + 1) % 2 ^ 64) (λ n after. after ≡ (after_commit me.0 e, []))
 commits e slots id me kind clean may s r homes at fits = (
   after_commit me.0 e,

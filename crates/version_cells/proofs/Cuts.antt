@@ -22,9 +22,13 @@ parts : (u t p v l r a b : ℕ) → u + v ≡ t + l → p ≡ u + r → t ≡ a 
 parts u t p v l r a b h e k w = omega arith
 
 -- a pass's view is cut, and no seat of a baton is concerned
-pass_cut : (words : List ℕ) (views : List View) (seat : ℕ) (b : View) (id : ℕ) (v l r : View) → RuleAt words views seat b → At views id v
-    → v.kind ≢ Baton → l.kind ≢ Baton → r.kind ≢ Baton → AllFit words b.own.seen (memories l) → AllFit words b.own.seen (memories r)
-    → ((n : ℕ) → pass_count n l + pass_count n r ≡ pass_count n v) → ((n : ℕ) → permit_count n l + permit_count n r ≡ permit_count n v) → ((n : ℕ) → entry_count n l + entry_count n r ≡ entry_count n v)
+pass_cut : (words : List ℕ) (views : List View) (seat : ℕ) (b : View) (id : ℕ) (v l r : View)
+    → RuleAt words views seat b → At views id v
+    → v.kind ≢ Baton → l.kind ≢ Baton → r.kind ≢ Baton → AllFit words b.own.seen (memories l)
+    → AllFit words b.own.seen (memories r)
+    → ((n : ℕ) → pass_count n l + pass_count n r ≡ pass_count n v)
+    → ((n : ℕ) → permit_count n l + permit_count n r ≡ permit_count n v)
+    → ((n : ℕ) → entry_count n l + entry_count n r ≡ entry_count n v)
     → RuleAt words (set views id l ++ r ∷ []) seat b
 pass_cut words views seat b id v l r k at vk lk rk lfit rfit passes_fit permits_fit entries_fit = record {
   at_seat = at_longer (set views id l) (r ∷ []) seat b (other_there views seat b id v l k.at_seat at vk k.is_baton);
@@ -45,11 +49,14 @@ pass_cut words views seat b id v l r k at vk lk rk lfit rfit passes_fit permits_
     sum : (a lf rf vf : ℕ) → lf + rf ≡ vf → a + lf + rf ≡ vf + a
     sum a lf rf vf h = omega arith
 
-    cut : (f : View → ℕ) {a : ℕ} → total f views ≡ a → f l + f r ≡ f v → total f (set views id l ++ r ∷ []) ≡ a
+    cut : (f : View → ℕ) {a : ℕ} → total f views ≡ a → f l + f r ≡ f v
+        → total f (set views id l ++ r ∷ []) ≡ a
     cut f {a} e w = parts _ _ _ _ _ _ _ _ (total-set f views id v l at) (total_push f (set views id l) r) e (sum a (f l) (f r) (f v) w)
 
 -- the baton's view is cut, or makes a pass
-baton_cut : (words : List ℕ) (views : List View) (id : ℕ) (v : View) (next : ℕ) (p : Option Permit) (r : View) → RuleAt words views id v
+baton_cut : (words : List ℕ) (views : List View) (id : ℕ) (v : View) (next : ℕ) (p : Option Permit)
+    (r : View)
+    → RuleAt words views id v
     → r.kind ≢ Baton → AllFit words v.own.seen (memories r)
     → ((n : ℕ) → one (nat_lt n v.next) + pass_count n v + pass_count n r ≡ pass_count n v + one (nat_lt n next))
     → ((n : ℕ) → one (nat_lt n v.next) + permit_count n (record v { next = next; permit = p }) + permit_count n r ≡ permit_count n v + one (nat_lt n next))
@@ -75,7 +82,8 @@ baton_cut words views id v next p r k rk rfit passes_fit permits_fit entries_fit
     l = record v { next = next; permit = p }
 
 -- one number more below the next
-tested : (x y z a b c : Bool) → x ≡ a → y ≡ b → z ≡ c → one a + one b ≡ one c → one x + one y ≡ one z
+tested : (x y z a b c : Bool) → x ≡ a → y ≡ b → z ≡ c → one a + one b ≡ one c
+    → one x + one y ≡ one z
 tested x y z a b c h i j e = ap (λ t. one t + one y) h ∙ ap (λ t. one a + one t) i ∙ e ∙ ap one (sym j)
 
 one_more : (n m : ℕ) → one (nat_lt n m) + one (m == n) ≡ one (nat_lt n (m + 1))
@@ -103,7 +111,8 @@ blank_fits words log = record { begins = (log, refl); found = omega arith; look 
 new_number : (n m : ℕ) → pass_count n (new_pass m) ≡ one (m == n)
 new_number n m = refl
 
-pub makes_pass : (id : ℕ) (v : View) → v.kind ≡ Baton → Splits {S = ℕ} {V = View} Holding id v (after_new_pass v) (new_pass v.next)
+pub makes_pass : (id : ℕ) (v : View) → v.kind ≡ Baton
+    → Splits {S = ℕ} {V = View} Holding id v (after_new_pass v) (new_pass v.next)
 makes_pass id v kind s r at =
     let k = seated s.words s.views r id v at kind in (
       id,
@@ -115,7 +124,8 @@ makes_pass id v kind s r at =
           (λ n. make_sum _ _ _ _ (ap (λ x. owned n v.own.seen + (x + 0)) (cond_none (v.next == n)) ∙ add-zero _)),
     )
 
-pub gives_permit : (id : ℕ) (v : View) → v.kind ≡ Baton → Splits {S = ℕ} {V = View} Holding id v (without_permit v) (baton_copy_with_permit v)
+pub gives_permit : (id : ℕ) (v : View) → v.kind ≡ Baton
+    → Splits {S = ℕ} {V = View} Holding id v (without_permit v) (baton_copy_with_permit v)
 gives_permit id v kind s r at =
     let k = seated s.words s.views r id v at kind in (
       id,
@@ -128,7 +138,8 @@ gives_permit id v kind s r at =
           (λ n. give_sum _ _ _),
     )
 
-pub copies_baton : (id : ℕ) (v : View) → v.kind ≡ Baton → Splits {S = ℕ} {V = View} Holding id v v (baton_copy v)
+pub copies_baton : (id : ℕ) (v : View) → v.kind ≡ Baton
+    → Splits {S = ℕ} {V = View} Holding id v v (baton_copy v)
 copies_baton id v kind s r at =
     let k = seated s.words s.views r id v at kind in (
       id,
@@ -141,7 +152,8 @@ copies_baton id v kind s r at =
           (λ n. make_sum _ _ _ _ (add-zero _)),
     )
 
-pub copies_pass : (id : ℕ) (v : View) → v.kind ≡ Pass → Splits {S = ℕ} {V = View} Holding id v v (pass_copy v)
+pub copies_pass : (id : ℕ) (v : View) → v.kind ≡ Pass
+    → Splits {S = ℕ} {V = View} Holding id v v (pass_copy v)
 copies_pass id v kind s r at =
     let k = r.2 in let old = k.remembered id v at in (
       r.0,
@@ -153,7 +165,8 @@ copies_pass id v kind s r at =
 lend_sum : (x y : ℕ) → (0 + x) + (0 + y) ≡ y + x
 lend_sum x y = omega arith
 
-pub lends : (id : ℕ) (v : View) → v.kind ≡ Pass → v.away ≡ false → Splits {S = ℕ} {V = View} Holding id v (after_lending v) (pass_copy_with_permit v)
+pub lends : (id : ℕ) (v : View) → v.kind ≡ Pass → v.away ≡ false
+    → Splits {S = ℕ} {V = View} Holding id v (after_lending v) (pass_copy_with_permit v)
 lends id v kind home s r at =
     let k = r.2 in let old = k.remembered id v at in (
       r.0,

@@ -19,7 +19,8 @@ use Rattle.version_cells.proofs.Prefixes.{longest_begins, longest_extends, look_
 use Rattle.version_cells.proofs.Keeping.{seated, other_moves}
 use Rattle.version_cells.proofs.Steps.{Holding, loaded, pass_no_baton}
 
-pub front_kept : (words : List ℕ) (views : List View) (seat : ℕ) (b : View) (id : ℕ) (v : View) → RuleAt words views seat b → At views id v → v.kind ≡ Pass
+pub front_kept : (words : List ℕ) (views : List View) (seat : ℕ) (b : View) (id : ℕ) (v : View)
+    → RuleAt words views seat b → At views id v → v.kind ≡ Pass
     → RuleAt words (set views id (after_front v (slice_index words 0))) seat b
 front_kept words views seat b id v k at kind =
     let old = k.remembered id v at in
@@ -35,7 +36,9 @@ front_kept words views seat b id v k at kind =
     (λ n. refl) (λ n. refl) (λ n. refl)
 
 -- where the permit of a pass is at home, its calls are all entries that it owns
-pub calls_at_home : (words : List ℕ) (views : List View) (seat : ℕ) (b : View) (id : ℕ) (v : View) → RuleAt words views seat b → At views id v → v.kind ≡ Pass → v.away ≡ false → owned v.number b.own.seen ≡ v.calls
+pub calls_at_home : (words : List ℕ) (views : List View) (seat : ℕ) (b : View) (id : ℕ) (v : View)
+    → RuleAt words views seat b → At views id v → v.kind ≡ Pass → v.away ≡ false
+    → owned v.number b.own.seen ≡ v.calls
 calls_at_home words views seat b id v k at kind home = sym (k.entries n) ∙ alone (entry_count n) views id v at others ∙ mine
   where
     n : ℕ
@@ -100,7 +103,8 @@ fronts slots id me kind clean s r homes at fits =
       ),
     )
 
-covers_all : (words : List ℕ) (views : List View) (id : ℕ) (b : View) (ms : List Memory) → RuleAt words views id b → AllFit words b.own.seen ms → CoversAll b ms
+covers_all : (words : List ℕ) (views : List View) (id : ℕ) (b : View) (ms : List Memory)
+    → RuleAt words views id b → AllFit words b.own.seen ms → CoversAll b ms
 covers_all words views id b [] k h = tt
 covers_all words views id b (m ∷ ms) k h = ((h.0.begins, h.0.found, of_look m.seen m.last h.0.look), covers_all words views id b ms k h.1)
   where

@@ -19,7 +19,8 @@ use Rattle.version_cells.proofs.Steps.{Holding, pass_no_baton}
 use Rattle.version_cells.proofs.Cuts.{blank_fits}
 
 -- the other seat is where it was, whatever the first became
-other_at : (views : List View) (id other : ℕ) (w x : View) → ¬ (other ≡ id) → At (set views id x) other w → At views other w
+other_at : (views : List View) (id other : ℕ) (w x : View) → ¬ (other ≡ id)
+    → At (set views id x) other w → At views other w
 other_at views id other w x apart at = sym (set_else views id other x apart) ∙ at
 
 met : (t u o v w b x a : ℕ) → u + v ≡ t + b → o + w ≡ u + x → t ≡ a → b + x ≡ v + w → o ≡ a
@@ -27,14 +28,18 @@ met t u o v w b x a h k e s = omega arith
 
 -- one view took another in, which is spent_view
 module _ (words : List ℕ) (views : List View) (id other : ℕ) (v w x : View) (at : At views id v) (there : At (set views id x) other w) where
-  joined : (f : View → ℕ) {a : ℕ} → total f views ≡ a → f spent_view ≡ 0 → f x ≡ f v + f w → total f (set (set views id x) other spent_view) ≡ a
+  joined : (f : View → ℕ) {a : ℕ} → total f views ≡ a → f spent_view ≡ 0 → f x ≡ f v + f w
+      → total f (set (set views id x) other spent_view) ≡ a
   joined f {a} e z s = met _ _ _ _ _ _ _ _ (total-set f views id v x at) (total-set f (set views id x) other w spent_view there) e (zeroed _ _ _ z s)
     where
       zeroed : (a b c : ℕ) → b ≡ 0 → a ≡ c → a + b ≡ c
       zeroed a b c h k = omega arith
 
-  pass_joined : (seat : ℕ) (b : View) → RuleAt words views seat b → ¬ (other ≡ id) → v.kind ≢ Baton → x.kind ≢ Baton → w.kind ≢ Baton → AllFit words b.own.seen (memories x)
-      → ((n : ℕ) → pass_count n x ≡ pass_count n v + pass_count n w) → ((n : ℕ) → permit_count n x ≡ permit_count n v + permit_count n w) → ((n : ℕ) → entry_count n x ≡ entry_count n v + entry_count n w)
+  pass_joined : (seat : ℕ) (b : View) → RuleAt words views seat b → ¬ (other ≡ id) → v.kind ≢ Baton
+      → x.kind ≢ Baton → w.kind ≢ Baton → AllFit words b.own.seen (memories x)
+      → ((n : ℕ) → pass_count n x ≡ pass_count n v + pass_count n w)
+      → ((n : ℕ) → permit_count n x ≡ permit_count n v + permit_count n w)
+      → ((n : ℕ) → entry_count n x ≡ entry_count n v + entry_count n w)
       → RuleAt words (set (set views id x) other spent_view) seat b
   pass_joined seat b k apart vk xk wk fit passes_fit permits_fit entries_fit = record {
     at_seat = other_there (set views id x) seat b other w spent_view (other_there views seat b id v x k.at_seat at vk k.is_baton) there wk k.is_baton;
@@ -52,8 +57,12 @@ module _ (words : List ℕ) (views : List View) (id other : ℕ) (v w x : View) 
     entries = λ n. joined (entry_count n) (k.entries n) refl (entries_fit n);
   }
 
-  baton_joined : RuleAt words views id v → ¬ (other ≡ id) → x.kind ≡ Baton → w.kind ≢ Baton → x.own.seen ≡ v.own.seen → x.pending ≡ v.pending → x.next ≡ v.next → AllFit words v.own.seen (memories x)
-      → ((n : ℕ) → pass_count n x ≡ pass_count n v + pass_count n w) → ((n : ℕ) → permit_count n x ≡ permit_count n v + permit_count n w) → ((n : ℕ) → entry_count n x ≡ entry_count n v + entry_count n w)
+  baton_joined : RuleAt words views id v → ¬ (other ≡ id) → x.kind ≡ Baton → w.kind ≢ Baton
+      → x.own.seen ≡ v.own.seen → x.pending ≡ v.pending → x.next ≡ v.next
+      → AllFit words v.own.seen (memories x)
+      → ((n : ℕ) → pass_count n x ≡ pass_count n v + pass_count n w)
+      → ((n : ℕ) → permit_count n x ≡ permit_count n v + permit_count n w)
+      → ((n : ℕ) → entry_count n x ≡ entry_count n v + entry_count n w)
       → RuleAt words (set (set views id x) other spent_view) id x
   baton_joined k apart xk wk seen pend next fit passes_fit permits_fit entries_fit = record {
     at_seat = set_else (set views id x) other id spent_view (λ e. apart (sym e)) ∙ set_here views id x (at_length views id v at);
@@ -76,12 +85,14 @@ copy_no_baton : (m : Memory) (p : Option Permit) → (copy_with m p).kind ≢ Ba
 copy_no_baton m p e = let h : Copy ≡ Baton = e in cc
 
 -- of two permits one at most is there
-took_permits : (p q : Option Permit) (n : ℕ) → MayTake p q → one (is_permit_of n (either_permit p q)) ≡ one (is_permit_of n p) + one (is_permit_of n q)
+took_permits : (p q : Option Permit) (n : ℕ) → MayTake p q
+    → one (is_permit_of n (either_permit p q)) ≡ one (is_permit_of n p) + one (is_permit_of n q)
 took_permits None q n h = omega arith
 took_permits (Some p) None n h = sym (add-zero _)
 took_permits (Some p) (Some q) n h = absurd h
 
-took_account : (p q : Option Permit) (n : ℕ) → MayTake p q → cond (is_permit_of n (either_permit p q)) (uses_of (either_permit p q)) 0 ≡ cond (is_permit_of n p) (uses_of p) 0 + cond (is_permit_of n q) (uses_of q) 0
+took_account : (p q : Option Permit) (n : ℕ) → MayTake p q
+    → cond (is_permit_of n (either_permit p q)) (uses_of (either_permit p q)) 0 ≡ cond (is_permit_of n p) (uses_of p) 0 + cond (is_permit_of n q) (uses_of q) 0
 took_account None q n h = omega arith
 took_account (Some p) None n h = sym (add-zero _)
 took_account (Some p) (Some q) n h = absurd h
@@ -89,7 +100,8 @@ took_account (Some p) (Some q) n h = absurd h
 take_sum : (x y z t : ℕ) → t ≡ y + z → x + t ≡ x + y + (0 + z)
 take_sum x y z t h = omega arith
 
-pub baton_takes : (id other : ℕ) (v : View) (m : Memory) (p : Option Permit) → v.kind ≡ Baton → MayTake v.permit p
+pub baton_takes : (id other : ℕ) (v : View) (m : Memory) (p : Option Permit) → v.kind ≡ Baton
+    → MayTake v.permit p
     → Joins {S = ℕ} {V = View} Holding id v other (copy_with m p) (baton_with_copy v (copy_with m p)) spent_view
 baton_takes id other v m p kind may s r at apart there =
     let w : View = copy_with m p in let x : View = baton_with_copy v w in
@@ -105,7 +117,8 @@ baton_takes id other v m p kind may s r at apart there =
     )
 
 -- two views weigh no more than all
-two_views : (f : View → ℕ) (views : List View) (id other : ℕ) (v w x : View) → At views id v → At (set views id x) other w → f x ≡ 0 → f v + f w ≤ total f views
+two_views : (f : View → ℕ) (views : List View) (id other : ℕ) (v w x : View) → At views id v
+    → At (set views id x) other w → f x ≡ 0 → f v + f w ≤ total f views
 two_views f views id other v w x at there z =
     let a = total-set f views id v x at in let b = total_at f (set views id x) other w there in omega arith
 
@@ -114,8 +127,11 @@ one_le true = omega arith
 one_le false = omega arith
 
 -- where a permit of the pass lies with a copy, it is away
-must_be_away : (words : List ℕ) (views : List View) (seat : ℕ) (b : View) (id other : ℕ) (v w : View) (p : Permit) → RuleAt words views seat b
-    → At views id v → At views other w → ¬ (other ≡ id) → v.kind ≡ Pass → w.permit ≡ Some p → p.number ≡ v.number → v.away ≡ true
+must_be_away : (words : List ℕ) (views : List View) (seat : ℕ) (b : View) (id other : ℕ)
+    (v w : View) (p : Permit)
+    → RuleAt words views seat b
+    → At views id v → At views other w → ¬ (other ≡ id) → v.kind ≡ Pass → w.permit ≡ Some p
+    → p.number ≡ v.number → v.away ≡ true
 must_be_away words views seat b id other v w p k at there apart kind has_it own = decide v.away refl
   where
     n : ℕ
@@ -150,7 +166,8 @@ home_sum x y = omega arith
 calls_sum : (c x y z : ℕ) → c ≡ x + z → c + y ≡ x + y + (0 + z)
 calls_sum c x y z h = omega arith
 
-pub pass_takes : (id other : ℕ) (v : View) (m : Memory) (p : Option Permit) → v.kind ≡ Pass → IsOwn v.number p
+pub pass_takes : (id other : ℕ) (v : View) (m : Memory) (p : Option Permit) → v.kind ≡ Pass
+    → IsOwn v.number p
     → Joins {S = ℕ} {V = View} Holding id v other (copy_with m p) (pass_with_copy v (copy_with m p)) spent_view
 pass_takes id other v m None kind own s r at apart there =
     let w : View = copy_with m None in let x : View = pass_with_copy v w in

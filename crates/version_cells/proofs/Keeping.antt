@@ -19,7 +19,8 @@ at_length (x ∷ xs) zero v e = omega arith
 at_length (x ∷ xs) (suc i) v e = let ih = at_length xs i v e in omega arith
 
 -- the baton's seat is where a baton is seen
-pub seated : (words : List ℕ) (views : List View) → Rule words views → (id : ℕ) (v : View) → At views id v → v.kind ≡ Baton → RuleAt words views id v
+pub seated : (words : List ℕ) (views : List View) → Rule words views → (id : ℕ) (v : View)
+    → At views id v → v.kind ≡ Baton → RuleAt words views id v
 seated words views r id v at kind =
     let k = r.2 in
     let mine : id ≡ r.0 = k.only id v at kind in
@@ -28,8 +29,10 @@ seated words views r id v at kind =
     subst (λ (b : View). RuleAt words views id b) same (subst (λ (j : ℕ). RuleAt words views j r.1) (sym mine) k)
 
 -- the baton's view changed, and maybe the words
-pub baton_moves : (words words' : List ℕ) (views : List View) (id : ℕ) (v w : View) → RuleAt words views id v
-    → w.kind ≡ Baton → length words' ≡ 4097 → length w.own.seen < 2 ^ 63 → slice_index words' 0 ≡ length w.own.seen
+pub baton_moves : (words words' : List ℕ) (views : List View) (id : ℕ) (v w : View)
+    → RuleAt words views id v
+    → w.kind ≡ Baton → length words' ≡ 4097 → length w.own.seen < 2 ^ 63
+    → slice_index words' 0 ≡ length w.own.seen
     → ((c : ℕ) → 0 < c → c ≤ 4096 → slice_index words' c ≡ turns c w.own.seen + one (has c w.pending))
     → StartsWith w.own.seen v.own.seen → ((i : ℕ) → slice_index words i ≤ slice_index words' i)
     → AllFit words' w.own.seen (memories w) → w.next ≡ v.next
@@ -57,14 +60,17 @@ pub level : (t u a b o : ℕ) → u + a ≡ t + b → b ≡ a → t ≡ o → u 
 level t u a b o h e k = omega arith
 
 -- the baton lies where it lay, since the other seat is not its own
-pub other_there : (views : List View) (seat : ℕ) (b : View) (id : ℕ) (v w : View) → At views seat b → At views id v → v.kind ≢ Baton → b.kind ≡ Baton → At (set views id w) seat b
+pub other_there : (views : List View) (seat : ℕ) (b : View) (id : ℕ) (v w : View) → At views seat b
+    → At views id v → v.kind ≢ Baton → b.kind ≡ Baton → At (set views id w) seat b
 other_there views seat b id v w there at old kind =
     set_else views id seat w (λ e. old (ap (λ (u : View). u.kind) (some-injective v b (sym at ∙ ap (get_elem? views) (sym e) ∙ there)) ∙ kind)) ∙ there
 
 -- another view changed, and no word
-pub other_moves : (words : List ℕ) (views : List View) (seat : ℕ) (b : View) (id : ℕ) (v w : View) → RuleAt words views seat b
+pub other_moves : (words : List ℕ) (views : List View) (seat : ℕ) (b : View) (id : ℕ) (v w : View)
+    → RuleAt words views seat b
     → At views id v → v.kind ≢ Baton → w.kind ≢ Baton → AllFit words b.own.seen (memories w)
-    → ((n : ℕ) → pass_count n w ≡ pass_count n v) → ((n : ℕ) → permit_count n w ≡ permit_count n v) → ((n : ℕ) → entry_count n w ≡ entry_count n v)
+    → ((n : ℕ) → pass_count n w ≡ pass_count n v) → ((n : ℕ) → permit_count n w ≡ permit_count n v)
+    → ((n : ℕ) → entry_count n w ≡ entry_count n v)
     → RuleAt words (set views id w) seat b
 other_moves words views seat b id v w k at old new fit passes_fit permits_fit entries_fit = record {
   at_seat = other_there views seat b id v w k.at_seat at old k.is_baton;

@@ -15,7 +15,9 @@ use Rattle.version_cells.proofs.Keeping.{other_moves}
 use Rattle.version_cells.proofs.Steps.{Holding, loaded, pass_no_baton}
 
 -- what the rule says of the turns of a cell in a list that begins the history
-below_word : (words : List ℕ) (views : List View) (seat : ℕ) (b : View) (c : ℕ) (seen : List Entry) → RuleAt words views seat b → 0 < c → c ≤ 4096 → StartsWith b.own.seen seen → turns c seen ≤ slice_index words c
+below_word : (words : List ℕ) (views : List View) (seat : ℕ) (b : View) (c : ℕ) (seen : List Entry)
+    → RuleAt words views seat b → 0 < c → c ≤ 4096 → StartsWith b.own.seen seen
+    → turns c seen ≤ slice_index words c
 below_word words views seat b c seen k low high s =
     let h : turns c seen ≤ turns c b.own.seen = starts_turns c b.own.seen seen s in
     let w : slice_index words c ≡ turns c b.own.seen + one (has c b.pending) = k.versions c low high in
@@ -24,7 +26,9 @@ below_word words views seat b c seen k low high s =
     chain : (a b c d : ℕ) → a ≤ b → c ≡ b + d → a ≤ c
     chain a b c d h w = omega arith
 
-pub look_kept : (words : List ℕ) (views : List View) (seat : ℕ) (b : View) (id : ℕ) (v : View) (c : ℕ) → RuleAt words views seat b → At views id v → v.kind ≡ Pass → 0 < c → c ≤ 4096
+pub look_kept : (words : List ℕ) (views : List View) (seat : ℕ) (b : View) (id : ℕ) (v : View)
+    (c : ℕ)
+    → RuleAt words views seat b → At views id v → v.kind ≡ Pass → 0 < c → c ≤ 4096
     → RuleAt words (set views id (after_look v c (slice_index words c))) seat b
 look_kept words views seat b id v c k at kind low high =
     let old = k.remembered id v at in
@@ -40,7 +44,8 @@ look_kept words views seat b id v c k at kind low high =
     )
     (λ n. refl) (λ n. refl) (λ n. refl)
 
-pub looks : (slots id : ℕ) (me : Me ℕ View) (c : ℕ) → me.0.kind ≡ Pass → me.1 ≡ [] → 0 < c → c ≤ 4096
+pub looks : (slots id : ℕ) (me : Me ℕ View) (c : ℕ) → me.0.kind ≡ Pass → me.1 ≡ [] → 0 < c
+    → c ≤ 4096
     → Allows {S = ℕ} {V = View} Holding slots id me c (λ n. n) (λ n after. (after ≡ (after_look me.0 c n, [])) × (turns c me.0.own.seen ≤ n))
 looks slots id me c kind clean low high s r homes at fits =
     let k = r.2 in let n : ℕ = slice_index s.words c in (

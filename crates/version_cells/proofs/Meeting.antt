@@ -15,11 +15,13 @@ use Rattle.version_cells.proofs.Steps.{Holding}
 use Rattle.version_cells.proofs.Joining.{baton_takes, pass_takes}
 use Rattle.version_cells.proofs.Prefixes.{longer_covers, longer_keeps, starts_length}
 
-pub baton_takes_as : (id other : ℕ) (v : View) (w : Me ℕ View) (m : Memory) (p : Option Permit) → v.kind ≡ Baton → w ≡ (copy_with m p, []) → MayTake v.permit p
+pub baton_takes_as : (id other : ℕ) (v : View) (w : Me ℕ View) (m : Memory) (p : Option Permit)
+    → v.kind ≡ Baton → w ≡ (copy_with m p, []) → MayTake v.permit p
     → Joins {S = ℕ} {V = View} Holding id v other w.0 (baton_with_copy v w.0) spent_view
 baton_takes_as id other v w m p kind is may = subst (λ (u : Me ℕ View). Joins {S = ℕ} {V = View} Holding id v other u.0 (baton_with_copy v u.0) spent_view) (sym is) (baton_takes id other v m p kind may)
 
-pub pass_takes_as : (id other : ℕ) (v : View) (w : Me ℕ View) (m : Memory) (p : Option Permit) → v.kind ≡ Pass → w ≡ (copy_with m p, []) → IsOwn v.number p
+pub pass_takes_as : (id other : ℕ) (v : View) (w : Me ℕ View) (m : Memory) (p : Option Permit)
+    → v.kind ≡ Pass → w ≡ (copy_with m p, []) → IsOwn v.number p
     → Joins {S = ℕ} {V = View} Holding id v other w.0 (pass_with_copy v w.0) spent_view
 pass_takes_as id other v w m p kind is own = subst (λ (u : Me ℕ View). Joins {S = ℕ} {V = View} Holding id v other u.0 (pass_with_copy v u.0) spent_view) (sym is) (pass_takes id other v m p kind own)
 
@@ -30,7 +32,8 @@ pub own_home : (n : ℕ) (away : Bool) (p : Option Permit) → ComesHome n away 
 own_home n away None h = tt
 own_home n away (Some p) h = h
 
-comes_home : (n : ℕ) (away : Bool) (p : Option Permit) → ComesHome n away p → is_away_after away p ≡ false
+comes_home : (n : ℕ) (away : Bool) (p : Option Permit) → ComesHome n away p
+    → is_away_after away p ≡ false
 comes_home n away None h = h
 comes_home n away (Some p) h = refl
 
@@ -38,7 +41,8 @@ longest_keeps : (seen : List Entry) (ms : List Memory) → length seen ≤ lengt
 longest_keeps seen [] = omega arith
 longest_keeps seen (m ∷ ms) = let a = longer_keeps seen m.seen in let b = longest_keeps (longer seen m.seen) ms in omega arith
 
-longest_covers : (seen : List Entry) (m : Memory) (ms : List Memory) → length m.seen ≤ length (longest seen (m ∷ ms))
+longest_covers : (seen : List Entry) (m : Memory) (ms : List Memory)
+    → length m.seen ≤ length (longest seen (m ∷ ms))
 longest_covers seen m ms = let a = longer_covers seen m.seen in let b = longest_keeps (longer seen m.seen) ms in omega arith
 
 -- a list that begins another as long as it is that list
@@ -65,7 +69,8 @@ pub record MeetingOf (p b q c : View) : Type 0 where
   pub met : Met p b
 
 -- a pass took a copy of the baton in and read the number of entries
-plain : (p b : View) (found : ℕ) → ComesHome p.number p.away b.permit → FrontTells (pass_with_copy p (baton_copy_with_permit b)) found
+plain : (p b : View) (found : ℕ) → ComesHome p.number p.away b.permit
+    → FrontTells (pass_with_copy p (baton_copy_with_permit b)) found
     → Covers b (after_front (pass_with_copy p (baton_copy_with_permit b)) found).own
     → (after_front (pass_with_copy p (baton_copy_with_permit b)) found ≡ pass_after_meet p b) × Met p b
 plain p b found home f r =
@@ -89,8 +94,11 @@ plain p b found home f r =
       },
     )
 
-pub meets : (p b p1 p2 b2 : View) (found : ℕ) → ComesHome p.number p.away b.permit → p1 ≡ pass_with_copy p (baton_copy_with_permit b) → p2 ≡ after_front p1 found → FrontTells p1 found
-    → b2 ≡ baton_with_copy (without_permit b) (pass_copy p2) → CoversAll b2 b2.notes → MeetingOf p b p2 b2
+pub meets : (p b p1 p2 b2 : View) (found : ℕ) → ComesHome p.number p.away b.permit
+    → p1 ≡ pass_with_copy p (baton_copy_with_permit b) → p2 ≡ after_front p1 found
+    → FrontTells p1 found
+    → b2 ≡ baton_with_copy (without_permit b) (pass_copy p2) → CoversAll b2 b2.notes
+    → MeetingOf p b p2 b2
 meets p b p1 p2 b2 found home e1 e2 f e3 r =
     let is : p2 ≡ after_front (pass_with_copy p (baton_copy_with_permit b)) found = e2 ∙ ap (λ (u : View). after_front u found) e1 in
     let told : CoversAll (baton_with_copy (without_permit b) (pass_copy p2)) (p2.own ∷ b.notes) = subst (λ (u : View). CoversAll u u.notes) e3 r in

@@ -34,5 +34,6 @@ kept n size = record {
   entries = λ m. refl;
 }
 
-pub opened : (words : List ℕ) (n : ℕ) → words ≡ replicate n 0 → n ≡ 4097 → Rule words (first_baton ∷ [])
+pub opened : (words : List ℕ) (n : ℕ) → words ≡ replicate n 0 → n ≡ 4097
+    → Rule words (first_baton ∷ [])
 opened words n is size = subst (λ (ws : List ℕ). Rule ws (first_baton ∷ [])) (sym is) (0, first_baton, kept n size)

@@ -38,7 +38,8 @@ is_one n v h = ap (λ t. is_pass t && (v.number == n)) h.0 ∙ eq-eqb v.number n
 abbrev Found : {A : Type 0} → (A → ℕ) → List A → Type 0
 Found {A} f xs = (i : ℕ) × (x : A) × (get_elem? xs i ≡ some x) × (1 ≤ f x)
 
-further : {A : Type 0} (f : A → ℕ) (x : A) (xs : List A) → (1 ≤ total f xs → Found f xs) → 1 ≤ f x + total f xs → (k : ℕ) → f x ≡ k → Found f (x ∷ xs)
+further : {A : Type 0} (f : A → ℕ) (x : A) (xs : List A) → (1 ≤ total f xs → Found f xs)
+    → 1 ≤ f x + total f xs → (k : ℕ) → f x ≡ k → Found f (x ∷ xs)
 further f x xs rest h zero e = let r = rest (omega arith) in (suc r.0, r.1, r.2, r.3)
 further f x xs rest h (suc k) e = (0, x, refl, omega arith)
 
@@ -65,7 +66,8 @@ module _ (words : List ℕ) (views : List View) (seat : ℕ) (b : View) (k : Rul
   below : (n t : ℕ) → 1 ≤ t → t ≤ one (nat_lt n b.next) → n < b.next
   below n t h l = ltb-true n b.next (one_true (nat_lt n b.next) (omega arith))
 
-  differ : (by other n : ℕ) (v w : View) → At views by v → At views other w → IsPassOf n v → IsPassOf n w → by ≡ other
+  differ : (by other n : ℕ) (v w : View) → At views by v → At views other w → IsPassOf n v
+      → IsPassOf n w → by ≡ other
   differ by other n v w at there iv iw = ⊎_elim (λ (e : by ≡ other). e)
       (λ (ne : by ≢ other). absurd (too_many _ _ _ _ (true_one (is_pass_of n v) (is_one n v iv)) (true_one (is_pass_of n w) (is_one n w iw))
       (two_at (pass_count n) views by other v w at there (λ e. ne (sym e))) (k.passes n) (one_le (nat_lt n b.next))))
@@ -75,23 +77,27 @@ module _ (words : List ℕ) (views : List View) (seat : ℕ) (b : View) (k : Rul
   numbers by n v at iv = below n (pass_count n v) (true_one (is_pass_of n v) (is_one n v iv)) (let t = total_at (pass_count n) views by v at in let p = k.passes n in omega arith)
 
   -- who holds a permit counts for it
-  permit_is_of : (n uses : ℕ) (v : View) → v.permit ≡ Some (record { number = n; uses = uses }) → (is_permit_of n v.permit ≡ true)
+  permit_is_of : (n uses : ℕ) (v : View) → v.permit ≡ Some (record { number = n; uses = uses })
+      → (is_permit_of n v.permit ≡ true)
   permit_is_of n uses v e = ap (λ (o : Option Permit). is_permit_of n o) e ∙ eq-eqb n n refl
 
-  counts_permit : (n uses : ℕ) (v : View) → v.permit ≡ Some (record { number = n; uses = uses }) → 1 ≤ permit_count n v
+  counts_permit : (n uses : ℕ) (v : View) → v.permit ≡ Some (record { number = n; uses = uses })
+      → 1 ≤ permit_count n v
   counts_permit n uses v e = let t = true_one (is_permit_of n v.permit) (permit_is_of n uses v e) in omega arith
 
   permits_low : (by n uses : ℕ) → Holds views by n uses → n < b.next
   permits_low by n uses h = below n (permit_count n h.0) (counts_permit n uses h.0 h.2) (let t = total_at (permit_count n) views by h.0 h.1 in let p = k.permits n in omega arith)
 
-  only_one : (by other n uses more : ℕ) → Holds views by n uses → Holds views other n more → other ≡ by
+  only_one : (by other n uses more : ℕ) → Holds views by n uses → Holds views other n more
+      → other ≡ by
   only_one by other n uses more h g = ⊎_elim (λ (e : other ≡ by). e)
       (λ (ne : other ≢ by). absurd (too_many _ _ _ _ (counts_permit n uses h.0 h.2) (counts_permit n more g.0 g.2)
       (two_at (permit_count n) views by other h.0 g.0 h.1 g.1 ne) (k.permits n) (one_le (nat_lt n b.next))))
       (cases_eq other by)
 
   -- a view without number and permit accounts for nothing
-  no_account : (n : ℕ) (w : View) → pass_count n w ≡ 0 → one (is_permit_of n w.permit) ≡ 0 → entry_count n w ≡ 0
+  no_account : (n : ℕ) (w : View) → pass_count n w ≡ 0 → one (is_permit_of n w.permit) ≡ 0
+      → entry_count n w ≡ 0
   no_account n w p q =
       ap (λ t. cond t w.calls 0 + cond (is_permit_of n w.permit) (uses_of w.permit) 0) (one_zero (is_pass_of n w) p)
       ∙ ap (λ t. 0 + cond t (uses_of w.permit) 0) (one_zero (is_permit_of n w.permit) q)
@@ -109,10 +115,12 @@ module _ (words : List ℕ) (views : List View) (seat : ℕ) (b : View) (k : Rul
       each j w at = no_account n w (least _ _ _ (total_at (pass_count n) views j w at) (k.passes n) none)
           (zero_parts _ _ (least _ _ _ (total_at (permit_count n) views j w at) (k.permits n) none)).1
 
-  home_permit : (n : ℕ) (v : View) → IsPassOf n v → v.away ≡ false → permit_count n v ≡ 1 + one (is_permit_of n v.permit)
+  home_permit : (n : ℕ) (v : View) → IsPassOf n v → v.away ≡ false
+      → permit_count n v ≡ 1 + one (is_permit_of n v.permit)
   home_permit n v iv home = ap (λ t. cond t 0 (pass_count n v) + one (is_permit_of n v.permit)) home ∙ ap (λ t. one t + one (is_permit_of n v.permit)) (is_one n v iv)
 
-  at_home : (by n : ℕ) (v : View) → At views by v → IsPassOf n v → v.away ≡ false → AtHome views b.own.seen n v.calls
+  at_home : (by n : ℕ) (v : View) → At views by v → IsPassOf n v → v.away ≡ false
+      → AtHome views b.own.seen n v.calls
   at_home by n v at iv home = (nobody, subst (λ m. owned m b.own.seen ≡ v.calls) iv.1 (calls_at_home words views seat b by v k at iv.0 home))
     where
       twice : (a p t c : ℕ) → a ≡ 1 + p → 1 ≤ p → a ≤ t → t ≡ c → c ≤ 1 → ⊥
@@ -128,7 +136,8 @@ module _ (words : List ℕ) (views : List View) (seat : ℕ) (b : View) (k : Rul
           (two_at (permit_count n) views by other v h.0 at h.1 ne) (k.permits n) (one_le (nat_lt n b.next)))
           (cases_eq other by)
 
-  permit_is : (n : ℕ) (o : Option Permit) → is_permit_of n o ≡ true → o ≡ Some (record { number = n; uses = uses_of o })
+  permit_is : (n : ℕ) (o : Option Permit) → is_permit_of n o ≡ true
+      → o ≡ Some (record { number = n; uses = uses_of o })
   permit_is n None h = let z : false ≡ true = h in cc
   permit_is n (Some p) h = ap (λ m. Some (record { number = m; uses = p.uses })) (eqb-true p.number n h)
 
@@ -144,7 +153,8 @@ module _ (words : List ℕ) (views : List View) (seat : ℕ) (b : View) (k : Rul
         second : (x y : ℕ) → 1 ≤ x + y → x ≡ 0 → 1 ≤ y
         second x y h e = omega arith
 
-        held_by : (i : ℕ) (u : View) → At views i u → 1 ≤ permit_count n u → (a : Bool) → u.away ≡ a → is_permit_of n u.permit ≡ true
+        held_by : (i : ℕ) (u : View) → At views i u → 1 ≤ permit_count n u → (a : Bool) → u.away ≡ a
+            → is_permit_of n u.permit ≡ true
         held_by i u there some_permit true e = one_true (is_permit_of n u.permit) (second (cond u.away 0 (pass_count n u)) _ some_permit (ap (λ t. cond t 0 (pass_count n u)) e))
         held_by i u there some_permit false e = ⊎_elim
             (λ (y : is_pass_of n u ≡ true).
@@ -156,7 +166,8 @@ module _ (words : List ℕ) (views : List View) (seat : ℕ) (b : View) (k : Rul
             (cases_Bool (is_pass_of n u))
 
     -- all that is accounted for lies with the pass and the holder
-    accounted : (i : ℕ) (u : View) → At views i u → is_permit_of n u.permit ≡ true → total (entry_count n) views ≡ v.calls + uses_of u.permit
+    accounted : (i : ℕ) (u : View) → At views i u → is_permit_of n u.permit ≡ true
+        → total (entry_count n) views ≡ v.calls + uses_of u.permit
     accounted i u there held = ⊎_elim together apart (cases_eq i by)
       where
         rest : (x y z t c : ℕ) → x + y ≤ t → 1 ≤ x → t ≡ c → c ≤ 1 → y ≡ 0

@@ -21,7 +21,8 @@ pub starts_length : (a b : List Entry) → StartsWith a b → length b ≤ lengt
 starts_length a b s = let e = ap length s.1 ∙ length-append b s.0 in omega arith
 
 -- of a list and one that begins it the first items are the same, as far as that one goes
-pub begun_take : (n : ℕ) (log seen : List Entry) → StartsWith log seen → n ≤ length seen → take n log ≡ take n seen
+pub begun_take : (n : ℕ) (log seen : List Entry) → StartsWith log seen → n ≤ length seen
+    → take n log ≡ take n seen
 begun_take n log seen s h = ap (λ (l : List Entry). take n l) s.1 ∙ take-append-le n seen s.0 h
 
 -- a list begins with its first items
@@ -41,13 +42,16 @@ both_begin (x ∷ a) (y ∷ b) r q e h =
     let ih = both_begin a b r q tail (omega arith) in
     (ih.0, λ i. sym head i ∷ ih.1 i)
 
-pub begins_longer : (log a b : List Entry) → StartsWith log a → StartsWith log b → length a ≤ length b → StartsWith b a
+pub begins_longer : (log a b : List Entry) → StartsWith log a → StartsWith log b
+    → length a ≤ length b → StartsWith b a
 begins_longer log a b s t h = both_begin a b s.0 t.0 (sym s.1 ∙ t.1) h
 
-pub longer_begins : (log a b : List Entry) → StartsWith log a → StartsWith log b → StartsWith log (longer a b)
+pub longer_begins : (log a b : List Entry) → StartsWith log a → StartsWith log b
+    → StartsWith log (longer a b)
 longer_begins log a b s t = cond_both (ltb (length a) (length b)) b a (StartsWith log) (λ _. t) (λ _. s)
 
-pub longer_extends : (log a b : List Entry) → StartsWith log a → StartsWith log b → StartsWith (longer a b) a
+pub longer_extends : (log a b : List Entry) → StartsWith log a → StartsWith log b
+    → StartsWith (longer a b) a
 longer_extends log a b s t = cond_both (ltb (length a) (length b)) b a (λ (l : List Entry). StartsWith l a)
     (λ e. begins_longer log a b s t (let h = ltb-true (length a) (length b) e in omega arith)) (λ _. starts_itself a)
 
@@ -60,11 +64,13 @@ pub longer_keeps : (a b : List Entry) → length a ≤ length (longer a b)
 longer_keeps a b = cond_both (ltb (length a) (length b)) b a (λ (l : List Entry). length a ≤ length l)
     (λ e. let h = ltb-true (length a) (length b) e in omega arith) (λ _. omega arith)
 
-pub longest_begins : (words : List ℕ) (log seen : List Entry) (ms : List Memory) → StartsWith log seen → AllFit words log ms → StartsWith log (longest seen ms)
+pub longest_begins : (words : List ℕ) (log seen : List Entry) (ms : List Memory)
+    → StartsWith log seen → AllFit words log ms → StartsWith log (longest seen ms)
 longest_begins words log seen [] s h = s
 longest_begins words log seen (m ∷ ms) s h = longest_begins words log (longer seen m.seen) ms (longer_begins log seen m.seen s h.0.begins) h.1
 
-pub longest_extends : (words : List ℕ) (log seen : List Entry) (ms : List Memory) → StartsWith log seen → AllFit words log ms → StartsWith (longest seen ms) seen
+pub longest_extends : (words : List ℕ) (log seen : List Entry) (ms : List Memory)
+    → StartsWith log seen → AllFit words log ms → StartsWith (longest seen ms) seen
 longest_extends words log seen [] s h = starts_itself seen
 longest_extends words log seen (m ∷ ms) s h =
     starts_trans (longest (longer seen m.seen) ms) (longer seen m.seen) seen
@@ -72,7 +78,9 @@ longest_extends words log seen (m ∷ ms) s h =
     (longer_extends log seen m.seen s h.0.begins)
 
 -- a look still fits where more was seen and the words rose
-pub look_grows : (words words' : List ℕ) (seen seen' : List Entry) (o : Option Look) → StartsWith seen' seen → ((i : ℕ) → slice_index words i ≤ slice_index words' i) → LookFits words seen o → LookFits words' seen' o
+pub look_grows : (words words' : List ℕ) (seen seen' : List Entry) (o : Option Look)
+    → StartsWith seen' seen → ((i : ℕ) → slice_index words i ≤ slice_index words' i)
+    → LookFits words seen o → LookFits words' seen' o
 look_grows words words' seen seen' None s up h = tt
 look_grows words words' seen seen' (Some l) s up h =
     let longer_now = starts_length seen' seen s in
@@ -80,13 +88,16 @@ look_grows words words' seen seen' (Some l) s up h =
     let u = up l.cell in
     (h.0, (let w = h.1 in omega arith), subst (λ (t : List Entry). turns l.cell t ≤ l.number) (sym same) h.2, (let k = h.3 in omega arith))
 
-pub fits_grows : (words words' : List ℕ) (log log' : List Entry) (m : Memory) → StartsWith log' log → ((i : ℕ) → slice_index words i ≤ slice_index words' i) → Fits words log m → Fits words' log' m
+pub fits_grows : (words words' : List ℕ) (log log' : List Entry) (m : Memory) → StartsWith log' log
+    → ((i : ℕ) → slice_index words i ≤ slice_index words' i) → Fits words log m → Fits words' log' m
 fits_grows words words' log log' m s up h = record {
   begins = starts_trans log' log m.seen s h.begins;
   found = let l = starts_length log' log s in let f = h.found in omega arith;
   look = look_grows words words' m.seen m.seen m.last (starts_itself m.seen) up h.look;
 }
 
-pub all_grow : (words words' : List ℕ) (log log' : List Entry) (ms : List Memory) → StartsWith log' log → ((i : ℕ) → slice_index words i ≤ slice_index words' i) → AllFit words log ms → AllFit words' log' ms
+pub all_grow : (words words' : List ℕ) (log log' : List Entry) (ms : List Memory)
+    → StartsWith log' log → ((i : ℕ) → slice_index words i ≤ slice_index words' i)
+    → AllFit words log ms → AllFit words' log' ms
 all_grow words words' log log' [] s up h = tt
 all_grow words words' log log' (m ∷ ms) s up h = (fits_grows words words' log log' m s up h.0, all_grow words words' log log' ms s up h.1)

@@ -22,11 +22,13 @@ use Rattle.version_cells.proofs.Points.{rule_has_six_points}
 world : List ℕ → List View → State ℕ View
 world words views = record { words = words; homes = []; views = views }
 
-by_word : (words : List ℕ) (i n m : ℕ) (views : List View) (id : ℕ) (v : View) → n ≡ m → RuleAt (set words i n) views id v → Rule (set words i m) views
+by_word : (words : List ℕ) (i n m : ℕ) (views : List View) (id : ℕ) (v : View) → n ≡ m
+    → RuleAt (set words i n) views id v → Rule (set words i m) views
 by_word words i n m views id v e k = (id, v, subst (λ x. RuleAt (set words i x) views id v) e k)
 
 module _ where
-  stepped : (words : List ℕ) (views : List View) (words' : List ℕ) (views' : List View) → Step words views words' views' → Rule words views → Rule words' views'
+  stepped : (words : List ℕ) (views : List View) (words' : List ℕ) (views' : List View)
+      → Step words views words' views' → Rule words views → Rule words' views'
   unfolding world
   stepped _ _ _ _ (Step.makes_pass words views id v at kind) r = makes_pass id v kind (world words views) r at
   stepped _ _ _ _ (Step.copies_baton words views id v at kind) r = copies_baton id v kind (world words views) r at

@@ -15,7 +15,8 @@ pub counted_up : (n : ℕ) → n < 2 ^ 63 → (n + 1) % 2 ^ 64 ≡ n + 1
 counted_up n h = omega arith
 
 -- a load writes what it found
-pub loaded : (words : List ℕ) (views : List View) (i : ℕ) → Rule words views → Rule (set words i (slice_index words i)) views
+pub loaded : (words : List ℕ) (views : List View) (i : ℕ) → Rule words views
+    → Rule (set words i (slice_index words i)) views
 loaded words views i r = subst (λ (ws : List ℕ). Rule ws views) (sym (unchanged words i)) r
 
 pub pass_no_baton : (v : View) → v.kind ≡ Pass → v.kind ≢ Baton

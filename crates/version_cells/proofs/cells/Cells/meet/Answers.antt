@@ -65,7 +65,8 @@ load-requires c = (
 )
 
 -- pass and baton after the meeting
-meeting : (c : goal.After-load) → MeetingOf c.pass.inside.seat.me.0 c.baton.inside.seat.me.0 c.split_seat-note.new.seat.me.0 c.load.new.seat.me.0
+meeting : (c : goal.After-load)
+    → MeetingOf c.pass.inside.seat.me.0 c.baton.inside.seat.me.0 c.split_seat-note.new.seat.me.0 c.load.new.seat.me.0
 meeting c =
     let p : View = c.pass.inside.seat.me.0 in let b : View = c.baton.inside.seat.me.0 in
     let front_of = ap (λ (m : Me ℕ View). m.0) c.split_seat-note.ensures.2 in
@@ -83,7 +84,8 @@ meeting c =
     c.load.ensures.2.2)
 
 -- the front is the same first part of what is seen now
-kept_front : (c : goal.After-load) → take c.pass.inside.front c.split_seat-note.new.seat.me.0.own.seen ≡ take c.pass.inside.front c.pass.inside.seat.me.0.own.seen
+kept_front : (c : goal.After-load)
+    → take c.pass.inside.front c.split_seat-note.new.seat.me.0.own.seen ≡ take c.pass.inside.front c.pass.inside.seat.me.0.own.seen
 kept_front c =
     let m = meeting c in
     ap (λ (v : View). take c.pass.inside.front v.own.seen) m.pass
