@@ -1,16 +1,16 @@
--- Answered calls: what a front of a pass ends with, and when one more call is answered.
+-- Answered calls: what a front of a pass ends with, what always holds of a pass, and when one more
+-- of its calls is answered.
 -- This jar's own rule: docs/DEFINITIONS.md.
-use Rattle.std.specs.Prelude.{◌≡◌, ◌≤◌, ◌+◌, ◌-◌, ◌^◌, ◌⊎◌, ℕ, List, [], ◌∷◌, ◌++◌, length, min, take, Some}
+use Rattle.std.specs.Prelude.{◌≡◌, ◌≤◌, ◌+◌, ◌-◌, ◌^◌, ◌⊎◌, ℕ, List, [], length, min, take, Some}
 use Rattle.version_cells.specs.declared.entry.Entry.{Entry}
 use Rattle.version_cells.specs.declared.view.Kind.TheVariants.{Pass}
 use Rattle.version_cells.specs.declared.view.View.{View}
-use Rattle.version_cells.specs.Entries.{owner_of, owned}
+use Rattle.version_cells.specs.Entries.{owner_of, owned, EndsWith}
 use Rattle.version_cells.specs.Standing.{PassStanding}
 
 -- a history ends with an entry that the pass n owns
 abbrev pub EndsWithOwn : ℕ → List Entry → Type 0
-EndsWithOwn n log =
-    (before : List Entry) × (e : Entry) × (log ≡ before ++ e ∷ []) × (owner_of e ≡ Some n)
+EndsWithOwn n log = (e : Entry) × EndsWith log e × (owner_of e ≡ Some n)
 
 -- a front of the pass n is empty, or ends with an entry that the pass owns
 abbrev pub IsFront : ℕ → List Entry → Type 0

@@ -51,6 +51,10 @@ owned n log = total (λ (e : Entry). one (is_owner n (owner_of e))) log
 abbrev pub StartsWith : List Entry → List Entry → Type 0
 StartsWith log seen = (rest : List Entry) × (log ≡ seen ++ rest)
 
+-- a history ends with an entry
+abbrev pub EndsWith : List Entry → Entry → Type 0
+EndsWith log e = (before : List Entry) × (log ≡ before ++ e ∷ [])
+
 -- the entry that stands for no commit
 abbrev pub no_entry : Entry
 no_entry = record { cells = []; owner = None }

@@ -1,6 +1,6 @@
 -- When a pass and the baton may serve a call, and what a call leaves.
 -- This jar's own rule: docs/DEFINITIONS.md.
-use Rattle.std.specs.Prelude.{◌≡◌, ◌<◌, ◌-◌, ◌+◌, ◌^◌, ℕ, List, [], ◌∷◌, ◌++◌, length, slice_index_or, false, Some, None}
+use Rattle.std.specs.Prelude.{◌≡◌, ◌<◌, ◌-◌, ◌+◌, ◌^◌, ℕ, List, [], ◌∷◌, length, slice_index_or, false, Some, None}
 use Rattle.atomic_table.specs.Seated.{TableId}
 use Rattle.version_cells.specs.declared.entry.Entry.{Entry}
 use Rattle.version_cells.specs.Entries.{IsCell, owned}
@@ -55,7 +55,3 @@ HasCalled old new =
 -- the entry of a call of the pass that moves this cell
 abbrev pub call_of : PassStanding → ℕ → Entry
 call_of s cell = entry_of (cell ∷ []) (Some s.view.number)
-
--- what the pass has seen ends with this entry
-abbrev pub EndsWith : PassStanding → Entry → Type 0
-EndsWith s e = (before : List Entry) × (s.view.own.seen ≡ before ++ e ∷ [])

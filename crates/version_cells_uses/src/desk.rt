@@ -1,9 +1,9 @@
 //! What lies under the lock.
 
 ghost use Rattle.std.specs.Prelude.{◌≡◌, ◌<◌, ◌≤◌, ◌-◌, ◌+◌, [], length, IfOk, IfErr, IsOk};
-ghost use Rattle.version_cells.specs.Entries.{IsCell};
+ghost use Rattle.version_cells.specs.Entries.{IsCell, EndsWith};
 ghost use Rattle.version_cells_uses.specs.declared.desk.TheConstants.{LIMIT};
-ghost use Rattle.version_cells_uses.specs.Ready.{IsFree, IsReady, HasCalled, EndsWith, call_of};
+ghost use Rattle.version_cells_uses.specs.Ready.{IsFree, IsReady, HasCalled, call_of};
 
 use crate::call::one_call;
 use crate::name::Name;
@@ -61,7 +61,7 @@ impl<N: Name> Desk<N> {
         ensures pass { IsReady N.table pass.new }
         ensures ok { IfOk result (λ _. (self.new.entries ≡ self.old.entries + 1)
             × HasCalled pass.old pass.new) }
-        ensures moved { IfOk result (λ _. EndsWith pass.new (call_of pass.old cell)) }
+        ensures moved { IfOk result (λ _. EndsWith pass.new.view.own.seen (call_of pass.old cell)) }
         ensures full { IfErr result (λ _. (self.old.entries ≡ LIMIT)
             × (self.new.entries ≡ LIMIT) × (pass.new ≡ pass.old)) }
         ensures succeeds { self.old.entries < LIMIT → IsOk result }

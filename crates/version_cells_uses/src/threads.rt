@@ -1,10 +1,10 @@
 //! Passes that call on threads of their own.
 
 ghost use Rattle.std.specs.Prelude.{◌≡◌, ◌≤◌, [], ◌∷◌, ◌++◌, IfOk, IfErr, length};
-ghost use Rattle.version_cells.specs.Entries.{IsCell, turns};
+ghost use Rattle.version_cells.specs.Entries.{IsCell, turns, EndsWith};
 ghost use Rattle.version_cells.specs.Moves.{look_of};
 ghost use Rattle.version_cells.specs.Standing.{new_pass_standing};
-ghost use Rattle.version_cells_uses.specs.Ready.{IsFree, IsReady, AllReady, HasCounted, EndsWith, call_of};
+ghost use Rattle.version_cells_uses.specs.Ready.{IsFree, IsReady, AllReady, HasCounted, call_of};
 
 use crate::desk::{Desk, Full};
 use crate::name::Name;
@@ -43,7 +43,8 @@ pub fn turn<N: Name, R: Wait>(
     requires cell { IsCell cell }
     ensures pass { IsReady N.table pass.new }
     ensures called { IfOk result (λ _. HasCounted pass.old pass.new 1
-        × (pass.new.front ≡ pass.new.view.own.seen) × EndsWith pass.new (call_of pass.old cell)) }
+        × (pass.new.front ≡ pass.new.view.own.seen)
+        × EndsWith pass.new.front (call_of pass.old cell)) }
     ensures looked { IfOk result (λ found. pass.new.view.looks
         ≡ pass.old.view.looks ++ look_of pass.new.view cell found ∷ []) }
     ensures never_back { IfOk result (λ found. turns cell pass.new.view.own.seen ≤ found) }
