@@ -3,11 +3,11 @@ use Rattle.std.specs.Prelude.{ℕ, ◌<◌, ◌≤◌, List, [], ◌∷◌, Opti
 use Rattle.cookie_date.specs.declared.parts.Parts.{Parts}
 use Rattle.cookie_date.specs.Token.{read_time, read_day, read_month, read_year}
 
--- a part that was found or is missing, and the tokens that are left for other parts
+-- a part, or none where no token can be it, and the tokens that are left for the other parts
 abbrev pub Taken : Type 0 → Type 0
 Taken A = Option A × List (List ℕ)
 
--- one token more in front, which is this part or is left for others
+-- one token more in front of those from which a part was taken: it is the part, or it is left
 abbrev pub take_here : {A : Type 0} → Option A → List ℕ → List (List ℕ) → Taken A → Taken A
 take_here (Some part) token tokens later = (Some part, tokens)
 take_here None token tokens later = (later.0, token ∷ later.1)
@@ -17,20 +17,17 @@ abbrev pub take_first : {A : Type 0} → (List ℕ → Option A) → List (List 
 take_first read [] = (None, [])
 take_first read (token ∷ tokens) = take_here (read token) token tokens (take_first read tokens)
 
--- a part that was found before, else the first token that can be it
-abbrev pub found_or_first : {A : Type 0} → Option A → (List ℕ → Option A) → List (List ℕ) → Taken A
-found_or_first (Some part) read tokens = (Some part, tokens)
-found_or_first None read tokens = take_first read tokens
-
--- the missing parts from these tokens: the time is the first token that can be one, the day the
--- first of the other tokens that can be one, then likewise the month and the year
-abbrev pub more_parts : Parts → List (List ℕ) → Parts
-more_parts found tokens =
-    let time = found_or_first found.time read_time tokens in
-    let day = found_or_first found.day read_day time.1 in
-    let month = found_or_first found.month read_month day.1 in
-    let year = found_or_first found.year read_year month.1 in
+-- the parts of these tokens: the time is the first token that can be one, the day the first of the
+-- other tokens that can be one, then likewise the month and the year
+abbrev pub parts_of : List (List ℕ) → Parts
+parts_of tokens =
+    let time = take_first read_time tokens in
+    let day = take_first read_day time.1 in
+    let month = take_first read_month day.1 in
+    let year = take_first read_year month.1 in
     record { time = time.0; day = day.0; month = month.0; year = year.0 }
+
+-- ---- that no public clause cites
 
 -- the month and the year are in range
 abbrev pub FitParts : Parts → Type 0

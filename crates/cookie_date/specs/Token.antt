@@ -1,4 +1,5 @@
--- The tokens of a date, and the part that a token may be, after RFC 6265, section 5.1.1.
+-- The tokens of a date, and the part that a token may be, after RFC 6265, section 5.1.1. That
+-- nothing need follow a number is the 6265bis draft's, in the same section.
 use Rattle.std.specs.Prelude.{ℕ, ◌+◌, Bool, ◌||◌, ◌==◌, List, [], ◌∷◌, map, take, drop, codes, bytes_eq, position, Option, Some, None, option_map, option_and_then, if◌then◌else◌}
 use Rattle.std.specs.Int.{is_in_range}
 use Rattle.std.specs.Char.{to_ascii_lowercase}
@@ -24,7 +25,7 @@ o >>= f = option_and_then f o
 unfoldable pub after_colon : List ℕ → Option (List ℕ)
 after_colon bytes = if bytes_eq (take 1 bytes) (codes ":") then Some (drop 1 bytes) else None
 
--- time = hms-time ( non-digit *OCTET ), hms-time = time-field ":" time-field ":" time-field,
+-- time = hms-time [ non-digit *OCTET ], hms-time = time-field ":" time-field ":" time-field,
 -- time-field = 1*2DIGIT
 unfoldable pub read_time : List ℕ → Option Time
 read_time token = do
@@ -33,7 +34,7 @@ read_time token = do
   second ← after_colon minute.1 >>= read_number 1 2
   Some (record { hour = hour.0; minute = minute.0; second = second.0 })
 
--- day-of-month = 1*2DIGIT ( non-digit *OCTET )
+-- day-of-month = 1*2DIGIT [ non-digit *OCTET ]
 unfoldable pub read_day : List ℕ → Option ℕ
 read_day token = option_map (λ read. read.0) (read_number 1 2 token)
 
@@ -55,6 +56,6 @@ month_place token = position (begins_with_name token) month_names
 unfoldable pub read_month : List ℕ → Option ℕ
 read_month token = option_map (λ place. place + 1) (month_place token)
 
--- year = 2*4DIGIT ( non-digit *OCTET )
+-- year = 2*4DIGIT [ non-digit *OCTET ]
 unfoldable pub read_year : List ℕ → Option ℕ
 read_year token = option_map (λ read. read.0) (read_number 2 4 token)

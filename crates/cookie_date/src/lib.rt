@@ -7,4 +7,5 @@ mod number;
 mod parts;
 mod token;
 
+pub use calendar::MIN_YEAR;
 pub use date::cookie_date;

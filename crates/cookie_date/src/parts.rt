@@ -8,15 +8,15 @@ use crate::token::{Time, read_day, read_month, read_time, read_year};
 
 /// The parts of a date that were found.
 #[derive(Clone, Copy)]
-pub(crate) struct Parts {
-    pub(crate) time: Option<Time>,
-    pub(crate) day: Option<u16>,
-    pub(crate) month: Option<u8>,
-    pub(crate) year: Option<u16>,
+pub struct Parts {
+    pub time: Option<Time>,
+    pub day: Option<u16>,
+    pub month: Option<u8>,
+    pub year: Option<u16>,
 }
 
 /// No parts.
-pub(crate) const NO_PARTS: Parts = Parts {
+pub const NO_PARTS: Parts = Parts {
     time: None,
     day: None,
     month: None,
@@ -27,42 +27,34 @@ pub(crate) const NO_PARTS: Parts = Parts {
 ///
 /// RFC 6265, section 5.1.1.
 #[tactic(auto, unfolding(crate::specs::Parts::with_token))]
-pub(crate) fn with_token(parts: Parts, token: &[u8]) -> Parts
+pub fn with_token(mut parts: Parts, token: &[u8]) -> Parts
     requires { FitParts parts }
     ensures value { result ≡ spec.with_token parts token.now }
     ensures fit { FitParts result }
 {
-    if parts.time.is_none() {
-        if let Some(time) = read_time(token) {
-            return Parts {
-                time: Some(time),
-                ..parts
-            };
-        }
+    if parts.time.is_none()
+        && let Some(time) = read_time(token)
+    {
+        parts.time = Some(time);
+        return parts;
     }
-    if parts.day.is_none() {
-        if let Some(day) = read_day(token) {
-            return Parts {
-                day: Some(day),
-                ..parts
-            };
-        }
+    if parts.day.is_none()
+        && let Some(day) = read_day(token)
+    {
+        parts.day = Some(day);
+        return parts;
     }
-    if parts.month.is_none() {
-        if let Some(month) = read_month(token) {
-            return Parts {
-                month: Some(month),
-                ..parts
-            };
-        }
+    if parts.month.is_none()
+        && let Some(month) = read_month(token)
+    {
+        parts.month = Some(month);
+        return parts;
     }
-    if parts.year.is_none() {
-        if let Some(year) = read_year(token) {
-            return Parts {
-                year: Some(year),
-                ..parts
-            };
-        }
+    if parts.year.is_none()
+        && let Some(year) = read_year(token)
+    {
+        parts.year = Some(year);
+        return parts;
     }
     parts
 }

@@ -3,3 +3,4 @@ pub mod Faults
 pub mod MemorySink
 pub mod MemorySource
 pub mod Streams
+pub mod Told

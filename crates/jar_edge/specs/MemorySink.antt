@@ -1,10 +1,11 @@
--- What contracts see of a sink in memory. Its writes are numbered from 1; the number stands still at the last value of
--- a u64. This jar's own rule: docs/DEFINITIONS.md.
-use Rattle.std.specs.Prelude.{◌≡◌, ◌⊎◌, ℕ, ◌-◌, ◌<◌, min, List, ◌++◌, length, Contains}
+-- What contracts see of a sink in memory. Its writes are numbered from 1; the number stands still
+-- at the last value of a u64. This jar's own rule: docs/DEFINITIONS.md.
+use Rattle.std.specs.Prelude.{◌≡◌, ◌⊎◌, ℕ, ◌-◌, ◌<◌, min, Some, List, ◌++◌, length, Contains}
 use Rattle.jar_edge.specs.Faults.{one_more}
+use Rattle.jar_edge.specs.Told.{SinkTold}
 
--- the bytes written, how many more there is room for, the most that a write takes, the numbers of the writes that
--- fail, and how many were made and failed
+-- the bytes written, how many more there is room for, the most that a write takes, the numbers of
+-- the writes that fail, and how many were made and failed
 pub record MemoryOutput : Type 0 where
   pub written : List ℕ
   pub room : ℕ
@@ -13,7 +14,12 @@ pub record MemoryOutput : Type 0 where
   pub calls : ℕ
   pub faults : ℕ
 
--- the next write, of a piece of this length, fails: by its number, or as there is no room for any of it
+-- what the sink tells
+abbrev pub sink_told : MemoryOutput → SinkTold
+sink_told sink = record { taken = sink.written; faults = sink.faults; written = Some sink.written }
+
+-- the next write, of a piece of this length, fails: by its number, or as there is no room for any
+-- of it
 abbrev pub IsWriteFailing : MemoryOutput → ℕ → Type 0
 IsWriteFailing sink piece_length =
     Contains sink.failing (one_more sink.calls) ⊎ ((sink.room ≡ 0) × (0 < piece_length))

@@ -1,24 +1,30 @@
--- Whole reads and whole writes, over the bytes that a source has left and those that a sink was given, where these
--- are told. This jar's own rule: docs/DEFINITIONS.md.
-use Rattle.std.specs.Prelude.{◌≡◌, ℕ, ◌+◌, ◌<◌, ◌≤◌, List, length, take, Option, Result, Ok, Err}
+-- Whole reads and whole writes, over what a source and a sink tell before and after. This jar's own
+-- rule: docs/DEFINITIONS.md.
+use Rattle.std.specs.Prelude.{◌≡◌, ℕ, ◌+◌, ◌<◌, ◌≤◌, true, List, ◌++◌, length, take, Result, Ok, Err}
 use Rattle.std.specs.Io.KnownBytes.{Appends, Consumes, IsAtEnd}
 use Rattle.jar_edge.specs.Faults.{Rose}
+use Rattle.jar_edge.specs.Told.{SourceTold, SinkTold}
 use Rattle.jar_edge.specs.declared.refusal.ReadRefusal.{ReadRefusal}
 use Rattle.jar_edge.specs.declared.refusal.ReadRefusal.TheVariants.{ReadFault, TooLarge, NoMemory}
 
--- reads took these bytes, and found the end behind them
-abbrev pub ReadsToEnd : Option (List ℕ) → Option (List ℕ) → List ℕ → Type 0
-ReadsToEnd old new bytes = Consumes old new bytes × IsAtEnd new
+-- reads gave just these bytes
+abbrev pub GivesJust : SourceTold → SourceTold → List ℕ → Type 0
+GivesJust old new bytes = (new.given ≡ old.given ++ bytes) × Consumes old.left new.left bytes
 
--- reads took bytes, as many as the fact on their number says
-abbrev pub Takes : Option (List ℕ) → Option (List ℕ) → (ℕ → Type 0) → Type 0
-Takes old new IsNumber = (bytes : List ℕ) × Consumes old new bytes × IsNumber (length bytes)
+-- reads gave just these bytes, and the last one found the end behind them
+abbrev pub GivesToEnd : SourceTold → SourceTold → List ℕ → Type 0
+GivesToEnd old new bytes = GivesJust old new bytes × (new.ended ≡ true) × IsAtEnd new.left
 
--- how many bytes a refused whole read took: one past the limit is too much, and else they are within it
-abbrev pub TakesAtRefusal : Option (List ℕ) → Option (List ℕ) → ℕ → ReadRefusal → Type 0
-TakesAtRefusal old new limit ReadFault = Takes old new (λ n. n ≤ limit)
-TakesAtRefusal old new limit TooLarge = Takes old new (λ n. n ≡ limit + 1)
-TakesAtRefusal old new limit NoMemory = Takes old new (λ n. n ≤ limit)
+-- reads gave just some bytes, as many as the fact on their number says
+abbrev pub GivesSome : SourceTold → SourceTold → (ℕ → Type 0) → Type 0
+GivesSome old new IsNumber = (bytes : List ℕ) × GivesJust old new bytes × IsNumber (length bytes)
+
+-- how many bytes reads gave to a whole read that is refused: one past the limit is too much, and
+-- else they are within it
+abbrev pub GivesAtRefusal : SourceTold → SourceTold → ℕ → ReadRefusal → Type 0
+GivesAtRefusal old new limit ReadFault = GivesSome old new (λ n. n ≤ limit)
+GivesAtRefusal old new limit TooLarge = GivesSome old new (λ n. n ≡ limit + 1)
+GivesAtRefusal old new limit NoMemory = GivesSome old new (λ n. n ≤ limit)
 
 -- the count of faults rose exactly where the whole read is refused as a fault
 abbrev pub CountsReadFault : {T : Type 0} → ℕ → ℕ → Result T ReadRefusal → Type 0
@@ -27,6 +33,10 @@ CountsReadFault before now (Err ReadFault) = Rose before now
 CountsReadFault before now (Err TooLarge) = now ≡ before
 CountsReadFault before now (Err NoMemory) = now ≡ before
 
--- some first bytes of these were written, and not all
-abbrev pub WritesPart : Option (List ℕ) → Option (List ℕ) → List ℕ → Type 0
-WritesPart old new bytes = (n : ℕ) × (n < length bytes) × Appends old new (take n bytes)
+-- writes took just these bytes
+abbrev pub TakesJust : SinkTold → SinkTold → List ℕ → Type 0
+TakesJust old new bytes = (new.taken ≡ old.taken ++ bytes) × Appends old.written new.written bytes
+
+-- writes took just some first bytes of these, and not all
+abbrev pub TakesPart : SinkTold → SinkTold → List ℕ → Type 0
+TakesPart old new bytes = (n : ℕ) × (n < length bytes) × TakesJust old new (take n bytes)

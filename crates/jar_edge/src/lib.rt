@@ -1,6 +1,7 @@
-//! The edge of the program: what bytes are read from and written to, in memory or over std, with faults counted.
+//! What bytes are read from and written to, in memory or over std, with faults counted.
 #![tactic(auto)]
 
+mod history;
 mod memory;
 mod memory_sink;
 mod memory_source;
@@ -15,7 +16,7 @@ mod writing;
 pub use memory::NoMemory;
 pub use memory_sink::MemSink;
 pub use memory_source::MemSource;
-pub use reading::read_whole;
+pub use reading::{MOST_ASKED, read_whole};
 pub use refusal::ReadRefusal;
 pub use sink::Sink;
 pub use source::{Failed, Source};

@@ -1,11 +1,12 @@
 //! A sink in memory.
 
-ghost use Rattle.std.specs.Prelude.{◌≡◌, ◌≤◌, ◌↔◌, [], Some, IfOk, OnErr, IsErr, MatchResult};
+ghost use Rattle.std.specs.Prelude.{◌≡◌, ◌≤◌, ◌↔◌, [], IfOk, OnErr, IsErr, MatchResult};
 ghost use Rattle.std.specs.Prelude.{length, take};
 ghost use Rattle.std.specs.Io.{WritesAtMost};
-ghost use Rattle.std.specs.Io.KnownBytes.{WriteAppends};
 ghost use Rattle.jar_edge.specs.Faults.{Rose, CountsTaken};
 ghost use Rattle.jar_edge.specs.MemorySink.{IsWriteFailing, taken_count, after_write, after_write_fault};
+ghost use Rattle.jar_edge.specs.MemorySink.{sink_told};
+ghost use Rattle.jar_edge.specs.Told.{Takes};
 
 use crate::memory::NoMemory;
 use crate::sink::Sink;
@@ -15,8 +16,8 @@ use std::marker::Model;
 
 /// A sink of bytes in memory.
 ///
-/// A write takes `piece` bytes at most, and fails exactly where its number is among those that fail or there is no
-/// room for any byte of it.
+/// A write takes `piece` bytes at most, and fails exactly where its number is among those that fail
+/// or there is no room for any byte of it.
 ///
 /// This jar's own rule: docs/DEFINITIONS.md.
 #[derive(Drop)]
@@ -49,7 +50,8 @@ impl Model for MemSink {
 }
 
 impl MemSink {
-    /// A sink with room for `room` bytes, whose writes take `piece` bytes at most and fail at these numbers.
+    /// A sink with room for `room` bytes, whose writes take `piece` bytes at most and fail at these
+    /// numbers.
     pub fn of(
         alloc: Global,
         room: usize,
@@ -85,13 +87,11 @@ impl MemSink {
 }
 
 impl Sink for MemSink {
-    ghost written = { λ s. Some s.written };
-
-    ghost faults = { λ s. s.faults };
+    ghost told = { sink_told };
 
     fn write(&mut self, piece: &[u8]) -> Result<usize, Failed>
         ensures bound { WritesAtMost result piece.now }
-        ensures bytes { WriteAppends (Some self.old.written) (Some self.new.written) result piece.now }
+        ensures bytes { Takes (sink_told self.old) (sink_told self.new) result piece.now }
         ensures count { MatchResult result
             (λ n. CountsTaken self.old.faults self.new.faults n (length piece.now))
             (λ _. Rose self.old.faults self.new.faults) }

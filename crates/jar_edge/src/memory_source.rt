@@ -1,11 +1,13 @@
 //! A source in memory.
 
-ghost use Rattle.std.specs.Prelude.{◌≡◌, ◌≤◌, ◌↔◌, Some, IfOk, OnErr, IsErr, length};
+ghost use Rattle.std.specs.Prelude.{◌≡◌, ◌≤◌, ◌↔◌, false, [], IfOk, OnErr, IsErr, length};
 ghost use Rattle.std.specs.Io.{ReadsAtMost};
-ghost use Rattle.std.specs.Io.KnownBytes.{ReadConsumes};
 ghost use Rattle.jar_edge.specs.Faults.{CountsRefusal};
 ghost use Rattle.jar_edge.specs.MemorySource.{IsReadFailing, given_count, after_read, after_read_fault};
+ghost use Rattle.jar_edge.specs.MemorySource.{source_told};
+ghost use Rattle.jar_edge.specs.Told.{Gives};
 
+use crate::history::History;
 use crate::source::{Failed, Source};
 use std::marker::Model;
 
@@ -22,6 +24,7 @@ pub struct MemSource {
     failing: Vec<u64>,
     calls: u64,
     faults: u64,
+    passed: History,
 }
 
 impl Model for MemSource {
@@ -32,6 +35,8 @@ impl Model for MemSource {
 
     ghost view = { λ s. record {
       left = drop s.at s.bytes.items;
+      given = s.passed.bytes;
+      ended = s.passed.ended;
       piece = s.piece;
       failing = s.failing.items;
       calls = s.calls;
@@ -47,6 +52,8 @@ impl MemSource {
         requires { 1 ≤ piece }
         ensures { result ≡ record {
           left = bytes.items;
+          given = [];
+          ended = false;
           piece = piece;
           failing = failing.items;
           calls = 0;
@@ -60,22 +67,21 @@ impl MemSource {
             failing,
             calls: 0,
             faults: 0,
+            passed: History::new(),
         }
     }
 }
 
 impl Source for MemSource {
-    ghost left = { λ s. Some s.left };
-
-    ghost faults = { λ s. s.faults };
+    ghost told = { source_told };
 
     fn read(&mut self, buf: &mut [u8]) -> Result<usize, Failed>
         ensures bound { ReadsAtMost result buf.new }
-        ensures bytes { ReadConsumes (Some self.old.left) (Some self.new.left) result buf.new }
+        ensures bytes { Gives (source_told self.old) (source_told self.new) result buf.new }
         ensures count { CountsRefusal self.old.faults self.new.faults result }
 
         ensures given { IfOk result (λ n. (n ≡ given_count self.old (length buf.old))
-            × (self.new ≡ after_read self.old n)) }
+            × (self.new ≡ after_read self.old n (length buf.new))) }
         ensures failed { (IsErr result ↔ IsReadFailing self.old)
             × OnErr result (self.new ≡ after_read_fault self.old) }
     {
@@ -88,6 +94,7 @@ impl Source for MemSource {
         let n = buf.len().min(self.piece.min(left.len()));
         buf[..n].copy_from_slice(&left[..n]);
         self.at += n;
+        self.passed.note(buf, n);
         Ok(n)
     }
 }

@@ -1,9 +1,9 @@
 //! What bytes are written to.
 
-ghost use Rattle.std.specs.Prelude.{ℕ, List, Option, MatchResult, length};
+ghost use Rattle.std.specs.Prelude.{MatchResult, length};
 ghost use Rattle.std.specs.Io.{WritesAtMost};
-ghost use Rattle.std.specs.Io.KnownBytes.{WriteAppends};
 ghost use Rattle.jar_edge.specs.Faults.{Rose, CountsTaken};
+ghost use Rattle.jar_edge.specs.Told.{SinkTold, Takes};
 
 use crate::source::Failed;
 
@@ -11,19 +11,18 @@ use crate::source::Failed;
 ///
 /// This jar's own rule: docs/DEFINITIONS.md.
 pub trait Sink {
-    /// The bytes that were written so far, where the sink tells them.
-    ghost written: { Self → Option (List ℕ) };
-
-    /// How many of its writes were faults, up to the last value of a u64.
-    ghost faults: { Self → ℕ };
+    /// What it tells: all bytes that its writes took, how many were faults, up to the last value of
+    /// a u64, and the bytes that it holds, where the sink knows them.
+    ghost told: { Self → SinkTold };
 
     /// Writes some bytes of the front of a piece, and says how many.
     ///
-    /// A write that takes nothing of a piece that isn't empty is a fault too. A write that failed wrote nothing.
+    /// A write that takes nothing of a piece that isn't empty is a fault too. A write that failed
+    /// took nothing.
     fn write(&mut self, piece: &[u8]) -> Result<usize, Failed>
         ensures bound { WritesAtMost result piece.now }
-        ensures bytes { WriteAppends (written self.old) (written self.new) result piece.now }
+        ensures bytes { Takes (told self.old) (told self.new) result piece.now }
         ensures count { MatchResult result
-            (λ n. CountsTaken (faults self.old) (faults self.new) n (length piece.now))
-            (λ _. Rose (faults self.old) (faults self.new)) };
+            (λ n. CountsTaken (told self.old).faults (told self.new).faults n (length piece.now))
+            (λ _. Rose (told self.old).faults (told self.new).faults) };
 }

@@ -1,9 +1,8 @@
 //! What bytes are read from.
 
-ghost use Rattle.std.specs.Prelude.{ℕ, List, Option};
 ghost use Rattle.std.specs.Io.{ReadsAtMost};
-ghost use Rattle.std.specs.Io.KnownBytes.{ReadConsumes};
 ghost use Rattle.jar_edge.specs.Faults.{CountsRefusal};
+ghost use Rattle.jar_edge.specs.Told.{SourceTold, Gives};
 
 use std::error::Error;
 use std::fmt;
@@ -26,17 +25,17 @@ impl Error for Failed {}
 ///
 /// This jar's own rule: docs/DEFINITIONS.md.
 pub trait Source {
-    /// The bytes that reads give from here on, where the source tells them.
-    ghost left: { Self → Option (List ℕ) };
-
-    /// How many of its reads failed, up to the last value of a u64.
-    ghost faults: { Self → ℕ };
+    /// What it tells: all bytes that its reads gave, whether the last one that succeeded found the
+    /// end, how many failed, up to the last value of a u64, and the bytes that are left, where the
+    /// source knows them.
+    ghost told: { Self → SourceTold };
 
     /// Reads some of the bytes that are left into the front of a buffer, and says how many.
     ///
-    /// `Ok(0)` for a buffer that isn't empty is the end of the input. A read that failed took nothing.
+    /// `Ok(0)` for a buffer that isn't empty is the end of the input. A read that failed gave
+    /// nothing.
     fn read(&mut self, buf: &mut [u8]) -> Result<usize, Failed>
         ensures bound { ReadsAtMost result buf.new }
-        ensures bytes { ReadConsumes (left self.old) (left self.new) result buf.new }
-        ensures count { CountsRefusal (faults self.old) (faults self.new) result };
+        ensures bytes { Gives (told self.old) (told self.new) result buf.new }
+        ensures count { CountsRefusal (told self.old).faults (told self.new).faults result };
 }

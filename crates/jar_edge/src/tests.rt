@@ -1,11 +1,12 @@
 //! Streams that fail, in pieces and at their limits. The calls are counted by hand.
 
-ghost use Rattle.std.specs.Prelude.{◌≤◌, IfSome, OnOk};
+ghost use Rattle.std.specs.Prelude.{◌<◌, ◌≤◌, List, ℕ, IfSome, OnOk};
 ghost use Rattle.std.specs.Io.KnownBytes.{Appends};
+ghost use Rattle.jar_edge.specs.Streams.{GivesToEnd, TakesJust};
 
 use crate::{
-    MemSink, MemSource, ReadRefusal, Sink, Source, StdSink, StdSource, WriteFault, read_whole,
-    write_all,
+    MOST_ASKED, MemSink, MemSource, NoMemory, ReadRefusal, Sink, Source, StdSink, StdSource,
+    WriteFault, read_whole, write_all,
 };
 use std::alloc::Global;
 use std::io;
@@ -15,7 +16,7 @@ use std::test::Fail;
 
 const TEXT: &[u8] = b"abcde";
 
-// A reader whose reads fail.
+/// A reader whose reads fail.
 #[derive(Drop)]
 struct Broken;
 
@@ -25,10 +26,25 @@ impl Read for Broken {
     }
 }
 
-// What a program does: at `Ok` the sink was given what the source had left, where both tell.
+/// A reader at its end, which keeps how many bytes it was asked for.
+#[derive(Drop)]
+struct Asked(usize);
+
+impl Read for Asked {
+    fn read(&mut self, buf: &mut [u8]) -> io::Result<usize> {
+        self.0 = buf.len();
+        Ok(0)
+    }
+}
+
+/// What a program does: at `Ok` the sink took what the source gave up to its end, and that is what
+/// was left, where both know.
 fn relay<S: Source, O: Sink>(alloc: Global, source: &mut S, sink: &mut O) -> Result<(), Fail>
-    ensures { OnOk result (IfSome (S.left source.old)
-        (Appends (O.written sink.old) (O.written sink.new))) }
+    ensures history { OnOk result ((bytes : List ℕ)
+        × GivesToEnd (S.told source.old) (S.told source.new) bytes
+        × TakesJust (O.told sink.old) (O.told sink.new) bytes) }
+    ensures known { OnOk result (IfSome (S.told source.old).left
+        (Appends (O.told sink.old).written (O.told sink.new).written)) }
 {
     let bytes = read_whole(alloc, source, 5)?;
     write_all(sink, &bytes)?;
@@ -91,6 +107,61 @@ fn one_byte_past_the_limit_is_too_large(rt: HostRuntime) -> Result<(), Fail> {
     Ok(())
 }
 
+/// A text of this length is read by reads that give 10,000 bytes at most.
+fn reads_long(
+    rt: &impl Abort,
+    alloc: Global,
+    length: usize,
+    limit: usize,
+    fits: bool,
+) -> Result<(), Fail>
+    requires { limit < usize.MAX }
+{
+    let mut text = Vec::new(alloc);
+    for i in 0..length {
+        text.push((i % 251) as u8)?;
+    }
+    let mut source = MemSource::of(text.clone()?, 10_000, Vec::new(alloc));
+    match read_whole(alloc, &mut source, limit) {
+        Ok(bytes) => assert!(rt; fits && bytes == text, "{length} bytes, at {limit}"),
+        Err(refusal) => {
+            assert!(rt; !fits, "{length} bytes, at {limit}");
+            assert_eq!(rt; refusal, ReadRefusal::TooLarge);
+        }
+    }
+    Ok(())
+}
+
+#[test]
+fn a_read_goes_on_past_the_most_that_one_read_is_asked_for(rt: HostRuntime) -> Result<(), Fail> {
+    let alloc = rt.alloc();
+    reads_long(&rt, alloc, 8191, 8191, true)?;
+    reads_long(&rt, alloc, 8192, 8192, true)?;
+    reads_long(&rt, alloc, 8193, 8193, true)?;
+    reads_long(&rt, alloc, 8193, 8192, false)?;
+    reads_long(&rt, alloc, 20_000, 30_000, true)?;
+    reads_long(&rt, alloc, 20_000, 19_999, false)?;
+    Ok(())
+}
+
+#[test]
+fn a_read_is_asked_for_no_byte_past_the_limit_but_one(rt: HostRuntime) -> Result<(), Fail> {
+    let alloc = rt.alloc();
+    for (limit, asked) in [
+        (0, 1),
+        (8190, 8191),
+        (8191, 8192),
+        (8192, 8192),
+        (20_000, MOST_ASKED),
+    ] {
+        let mut reader = Asked(0);
+        let read = read_whole(alloc, &mut StdSource::of(&mut reader), limit)?;
+        assert!(rt; read.is_empty());
+        assert_eq!(rt; reader.0, asked, "at {limit}");
+    }
+    Ok(())
+}
+
 fn writes(
     rt: &impl Abort,
     alloc: Global,
@@ -118,6 +189,13 @@ fn a_write_that_fails_leaves_what_was_written_before(rt: HostRuntime) -> Result<
     writes(&rt, alloc, 3, 0, b"abc")?;
     writes(&rt, alloc, 0, 0, b"")?;
     Ok(())
+}
+
+#[test]
+fn room_that_no_memory_has_is_want_of_memory(rt: HostRuntime) {
+    let alloc = rt.alloc();
+    let sink = MemSink::of(alloc, usize::MAX, 1, Vec::new(alloc));
+    assert_eq!(rt; sink.err(), Some(NoMemory));
 }
 
 #[test]

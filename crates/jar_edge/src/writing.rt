@@ -1,9 +1,8 @@
 //! Whole writes.
 
 ghost use Rattle.std.specs.Prelude.{OnOk, OnErr};
-ghost use Rattle.std.specs.Io.KnownBytes.{Appends};
 ghost use Rattle.jar_edge.specs.Faults.{CountsRefusal};
-ghost use Rattle.jar_edge.specs.Streams.{WritesPart};
+ghost use Rattle.jar_edge.specs.Streams.{TakesJust, TakesPart};
 
 use crate::sink::Sink;
 use crate::source::Failed;
@@ -32,14 +31,14 @@ impl From<Failed> for WriteFault {
 
 /// Writes all the bytes.
 ///
-/// Refuses where a write is a fault: then a part of the bytes, from their front on, was written.
+/// Refuses where a write is a fault: then a part of the bytes, from their front on, was taken.
 ///
 /// This jar's own rule: docs/DEFINITIONS.md.
-#[tactic(auto, using(crate::proofs::StreamLemmas::appends_next))]
+#[tactic(auto, using(crate::proofs::StreamLemmas::appended, crate::proofs::StreamLemmas::taken))]
 pub fn write_all<O: Sink>(sink: &mut O, bytes: &[u8]) -> Result<(), WriteFault>
-    ensures whole { OnOk result (Appends (O.written sink.old) (O.written sink.new) bytes.now) }
-    ensures part { OnErr result (WritesPart (O.written sink.old) (O.written sink.new) bytes.now) }
-    ensures fault { CountsRefusal (O.faults sink.old) (O.faults sink.new) result }
+    ensures whole { OnOk result (TakesJust (O.told sink.old) (O.told sink.new) bytes.now) }
+    ensures part { OnErr result (TakesPart (O.told sink.old) (O.told sink.new) bytes.now) }
+    ensures fault { CountsRefusal (O.told sink.old).faults (O.told sink.new).faults result }
 {
     let mut done = 0;
     while done < bytes.len() {

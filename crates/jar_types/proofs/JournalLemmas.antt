@@ -5,9 +5,11 @@ use Rattle.std.specs.List.{fold}
 use Rattle.jar_types.specs.declared.entry.Event.{Event}
 use Rattle.jar_types.specs.declared.entry.Event.TheVariants.{Call as CallEvent, Jar as JarEvent}
 use Rattle.jar_types.specs.declared.entry.Entry.{Entry}
+use Rattle.std.specs.Prelude.{ℕ}
 use Rattle.jar_types.specs.States.{JarState, opening}
 use Rattle.jar_types.specs.Steps.{after, entry_of, event_of}
-use Rattle.jar_types.specs.Journals.{Rules, events, run, all_stand, stands, state_of, JournalsGoOn, StatesGoOn}
+use Rattle.jar_types.specs.Journals.{Rules, stored_keys, events, run, all_stand, stands, state_of}
+use Rattle.jar_types.specs.JournalLaws.{JournalsGoOn, StatesGoOn}
 
 -- an entry tells its event
 pub event_back : (s : JarState) (v : Event) → event_of (entry_of s v) ≡ v
@@ -38,13 +40,16 @@ all_stand-push r s (w ∷ ws) v all last =
 
 pub state_push : StatesGoOn
 unfolding state_of
-state_push journal v = rw (events-push journal (fold after opening (events journal)) v) (fold-push opening (events journal) v)
+state_push keys journal v =
+    rw (events-push journal (fold after (opening keys) (events journal)) v) (fold-push (opening keys) (events journal) v)
 
 pub legal_push : JournalsGoOn
 unfolding state_of
 legal_push r journal v legal may =
-    let s = fold after opening (events journal) in
+    let from = opening (stored_keys r) in
+    let s = fold after from (events journal) in
     let vs = events-push journal s v in record {
-      replies = rw vs (run-push opening (events journal) v ∙ ap (λ xs. xs ++ entry_of s v ∷ []) legal.replies);
-      standing = rw vs (all_stand-push r opening (events journal) v legal.standing may);
+      hosts = legal.hosts;
+      replies = rw vs (run-push from (events journal) v ∙ ap (λ xs. xs ++ entry_of s v ∷ []) legal.replies);
+      standing = rw vs (all_stand-push r from (events journal) v legal.standing may);
     }

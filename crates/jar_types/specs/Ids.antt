@@ -1,5 +1,5 @@
--- The id of a cookie and the order of ids. The 6265bis draft, section 5.7 (storage model), whose name, domain,
--- host-only flag and path make up the identity of a cookie.
+-- The id of a cookie and the order of ids. The 6265bis draft, section 5.7 (storage model), whose
+-- name, domain, host-only flag and path make up the identity of a cookie.
 use Rattle.std.specs.Prelude.{ℕ, List, Bool}
 use Rattle.std.specs.Ordering.{nat_cmp, ordering_then, is_eq}
 use Rattle.std.specs.Cmp.Lexicographic.{slice_cmp}
@@ -12,19 +12,24 @@ use Rattle.jar_types.specs.declared.cookie.CookieId.{CookieId}
 abbrev pub text_cmp : List ℕ → List ℕ → Ordering
 text_cmp = slice_cmp nat_cmp
 
+-- ids are ordered by host, then name, then path
+abbrev pub id_cmp : CookieId → CookieId → Ordering
+id_cmp i j =
+    ordering_then (text_cmp i.host j.host)
+    (ordering_then (text_cmp i.name j.name) (text_cmp i.path j.path))
+
 -- the id of a cookie
 abbrev pub id_of : Cookie → CookieId
 id_of c = record { host = c.host; name = c.name; path = c.path }
 
--- ids are ordered by host, then name, then path
-abbrev pub id_cmp : Cookie → Cookie → Ordering
-id_cmp c d =
-    ordering_then (text_cmp c.host d.host) (ordering_then (text_cmp c.name d.name) (text_cmp c.path d.path))
+-- cookies are ordered by their ids
+abbrev pub cookie_cmp : Cookie → Cookie → Ordering
+cookie_cmp c d = id_cmp (id_of c) (id_of d)
 
 -- both cookies have one id
 abbrev pub same_id : Cookie → Cookie → Bool
-same_id c d = is_eq (id_cmp c d)
+same_id c d = is_eq (cookie_cmp c d)
 
 -- the ids rise strictly, so no two are the same
 abbrev pub RisesById : List Cookie → Type 0
-RisesById cookies = IsStrictlySortedBy id_cmp cookies
+RisesById cookies = IsStrictlySortedBy cookie_cmp cookies

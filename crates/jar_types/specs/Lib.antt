@@ -1,9 +1,8 @@
 pub mod Ids
-pub mod Hosts
-pub mod Paths
 pub mod Matches
 pub mod Orders
 pub mod Answers
+pub mod Changes
 pub mod Purges
 pub mod Entries
 pub mod States
@@ -11,3 +10,8 @@ pub mod Sets
 pub mod Gets
 pub mod Steps
 pub mod Journals
+pub mod JournalLaws
+pub use Rattle.jar_values.specs.Bytes
+pub use Rattle.jar_values.specs.Names
+pub use Rattle.jar_values.specs.Hosts
+pub use Rattle.jar_values.specs.Paths

@@ -3,17 +3,14 @@
 use Rattle.std.specs.Prelude.{ℕ, ◌+◌, List, drop, Bool, true, false, not, ◌&&◌, ◌||◌, nat_eq, nat_le, bytes_eq, codes}
 use Rattle.std.specs.List.{starts_with}
 use Rattle.jar_types.specs.declared.cookie.Cookie.{Cookie}
-use Rattle.jar_types.specs.declared.cookie.SameSite.{SameSite}
-use Rattle.jar_types.specs.declared.cookie.SameSite.TheVariants.{Unspecified, NoLimit, Lax as LaxSite, Strict as StrictSite}
+use Rattle.jar_values.specs.declared.attributes.SameSite.{SameSite}
+use Rattle.jar_values.specs.declared.attributes.SameSite.TheVariants.{Unspecified, NoLimit, Lax as LaxSite, Strict as StrictSite}
+use Rattle.jar_types.specs.declared.request.TheConstants.{UNSAFE_GRACE}
 use Rattle.jar_types.specs.declared.request.Request.{Request}
 use Rattle.jar_types.specs.declared.request.Context.{Context}
 use Rattle.jar_types.specs.declared.request.Context.TheVariants.{Strict, Lax, LaxUnsafe, Cross}
-use Rattle.jar_types.specs.Hosts.{domain_matches}
-use Rattle.jar_types.specs.Paths.{path_matches}
-
--- for how long a cookie without SameSite goes along with an unsafe navigation, in milliseconds
-abbrev pub unsafe_grace : ℕ
-unsafe_grace = 120000
+use Rattle.jar_values.specs.Hosts.{domain_matches}
+use Rattle.jar_values.specs.Paths.{path_matches}
 
 -- the host is the cookie's, or the cookie's is a dot and a domain that the host matches
 abbrev pub host_matches : List ℕ → List ℕ → Bool
@@ -33,7 +30,7 @@ site_allows LaxSite LaxUnsafe creation now = false
 site_allows LaxSite Cross creation now = false
 site_allows Unspecified Strict creation now = true
 site_allows Unspecified Lax creation now = true
-site_allows Unspecified LaxUnsafe creation now = nat_le now (creation + unsafe_grace)
+site_allows Unspecified LaxUnsafe creation now = nat_le now (creation + UNSAFE_GRACE)
 site_allows Unspecified Cross creation now = false
 
 -- the request gets the cookie: keys, hosts, paths, Secure, HttpOnly and SameSite

@@ -1,20 +1,39 @@
--- The jar of one thread: its state. This jar's own rule: docs/DEFINITIONS.md.
-use Rattle.std.specs.Prelude.{ℕ, List, [], Bool, false}
+-- The jar of one thread: its state, and what an event makes of it. This jar's own rule:
+-- docs/DEFINITIONS.md.
+use Rattle.std.specs.Prelude.{ℕ, List, [], length, Bool, false, not, ◌==◌, bytes_eq}
+use Rattle.std.specs.List.{list_any}
 use Rattle.jar_types.specs.declared.cookie.Cookie.{Cookie}
+use Rattle.jar_types.specs.declared.change.Change.{Change}
 use Rattle.jar_types.specs.declared.op.Reply.{Reply}
 
--- the cookies in the order of their ids, whether every key is loaded, and how many entries callers have, and all have
+-- the cookies in the order of their ids, the keys whose stored cookies aren't loaded, whether the
+-- jar is whole, and how many entries callers have, and all have
 pub record JarState : Type 0 where
   pub cookies : List Cookie
+  pub unloaded : List (List ℕ)
   pub whole : Bool
   pub calls : ℕ
   pub entries : ℕ
 
--- the state that a jar is opened with, where no cookie is stored
-abbrev pub opening : JarState
-opening = record { cookies = []; whole = false; calls = 0; entries = 0 }
+-- the state that a jar is opened with, in which these keys aren't loaded
+abbrev pub opening : List (List ℕ) → JarState
+opening keys = record { cookies = []; unloaded = keys; whole = false; calls = 0; entries = 0 }
 
--- the cookies after an op, and the reply to it
+-- the stored cookies of the key are loaded
+abbrev pub is_loaded : JarState → List ℕ → Bool
+is_loaded s key = not (list_any (bytes_eq key) s.unloaded)
+
+-- no key is left to load
+abbrev pub all_loaded : JarState → Bool
+all_loaded s = length s.unloaded == 0
+
+-- what an op leads to: the state, the reply, and the changes of the cookies
 pub record Stepped : Type 0 where
-  pub cookies : List Cookie
+  pub state : JarState
   pub reply : Reply
+  pub changes : List Change
+
+-- what the jar's own entry leads to
+pub record OwnStepped : Type 0 where
+  pub state : JarState
+  pub changes : List Change

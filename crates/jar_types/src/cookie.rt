@@ -1,32 +1,11 @@
 //! Cookies and their ids.
 
 ghost use Rattle.std.specs.Prelude.{◌≡◌, IfOk};
+ghost use Rattle.jar_types.specs.Ids.{id_cmp};
 
-use crate::memory::NoMemory;
-use crate::moment::Moment;
-use crate::text::Text;
+use jar_values::{Copied, Listed, Moment, NoMemory, Priority, SameSite, Text};
 use std::alloc::Global;
-
-/// The SameSite attribute of a cookie.
-///
-/// The 6265bis draft, section 5.6.7; `NoLimit` is its value `None`, `Unspecified` its `Default`.
-#[derive(Clone, Copy, Debug, PartialEq, Eq)]
-pub enum SameSite {
-    Unspecified,
-    NoLimit,
-    Lax,
-    Strict,
-}
-
-/// The Priority attribute of a cookie, which eviction goes by.
-///
-/// This jar's own rule: docs/DEFINITIONS.md.
-#[derive(Clone, Copy, Debug, PartialEq, Eq)]
-pub enum Priority {
-    Low,
-    Medium,
-    High,
-}
+use std::cmp::Ordering;
 
 /// The id of a cookie, in the order of host, name and path, each by its bytes.
 ///
@@ -39,6 +18,15 @@ pub struct CookieId {
 }
 
 impl CookieId {
+    /// How it stands to another in the order of ids, which is that of `Ord` too.
+    ///
+    /// This jar's own rule: docs/DEFINITIONS.md.
+    pub fn order(&self, other: &CookieId) -> Ordering
+        ensures { result ≡ id_cmp self.now other.now }
+    {
+        self.cmp(other)
+    }
+
     /// The same id again.
     pub fn copy(&self, alloc: Global) -> Result<CookieId, NoMemory>
         ensures { IfOk result (λ id. id ≡ self.now) }
@@ -73,6 +61,9 @@ pub struct Cookie {
     pub priority: Priority,
 }
 
+/// Cookies, seen as their list.
+pub type Cookies = Listed<Cookie>;
+
 impl Cookie {
     /// The same cookie again.
     pub fn copy(&self, alloc: Global) -> Result<Cookie, NoMemory>
@@ -92,5 +83,11 @@ impl Cookie {
             same_site: self.same_site,
             priority: self.priority,
         })
+    }
+}
+
+impl Copied for Cookie {
+    fn copied(&self, alloc: Global) -> Result<Cookie, NoMemory> {
+        self.copy(alloc)
     }
 }

@@ -2,9 +2,8 @@
 
 ghost use Rattle.std.specs.Prelude.{◌≡◌, IfOk};
 
-use crate::memory::NoMemory;
-use crate::moment::Moment;
 use crate::op::{Op, Reply};
+use jar_values::{Moment, NoMemory};
 use std::alloc::Global;
 
 /// What the jar does of its own accord.

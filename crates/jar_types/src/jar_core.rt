@@ -1,13 +1,12 @@
 //! What a core of the jar does: it holds the content, prepares entries and settles them.
 
-ghost use Rattle.std.specs.Prelude.{◌≡◌, ◌<◌, ◌-◌, ◌^◌, [], true, IfOk};
+ghost use Rattle.std.specs.Prelude.{◌≡◌, ◌<◌, ◌-◌, ◌^◌, [], IfOk};
 ghost use Rattle.jar_types.specs.States.{opening};
-ghost use Rattle.jar_types.specs.Steps.{after, entry_of, event_of, may_come};
+ghost use Rattle.jar_types.specs.Steps.{OwnMayStand, after, entry_of, event_of, own_may_stand};
 ghost use Rattle.jar_types.specs.declared.jar_core.CoreRefusal.TheVariants.{NoMemory as WantOfMemory};
 
-use crate::entry::{Entry, Event};
-use crate::memory::NoMemory;
-use crate::texts::Texts;
+use crate::entry::{Entry, Event, Own};
+use jar_values::{NoMemory, Texts};
 use std::alloc::Global;
 use std::error::Error;
 use std::fmt;
@@ -64,20 +63,20 @@ pub trait JarCore {
     /// The content.
     ghost state: { Self → JarState };
 
-    /// Whether an entry was made ready at this content.
+    /// Whether an entry was made ready at this content, just as it stands.
     ghost ready: { Self → PreparedData → Type 0 };
 
-    /// An empty jar, in which every key but these is loaded.
+    /// An empty jar, in which every key but these is loaded. No key can be loaded yet, so these are none.
     fn fresh(alloc: Global, keys: Texts) -> Result<Self, NoMemory>
         requires { keys ≡ [] }
-        ensures { IfOk result (λ core. state core ≡ opening) };
+        ensures { IfOk result (λ core. state core ≡ opening keys) };
 
     /// The entry of an event. The content stays, and the core is ready for the entry until its next call by `&mut`.
     ///
     /// Only want of memory refuses.
     fn prepare(&mut self, alloc: Global, event: &Event) -> Result<Prepared, CoreRefusal>
         requires room { (state self.old).entries < 2 ^ 64 - 1 }
-        requires stands { may_come (state self.old) event.now ≡ true }
+        requires stands { OwnMayStand (state self.old) event.now }
 
         // The entry is the one that the event makes.
         ensures entry { IfOk result (λ p. p.entry ≡ entry_of (state self.old) event.now) }
@@ -85,9 +84,17 @@ pub trait JarCore {
 
         ensures same { state self.new ≡ state self.old };
 
+    /// Whether the jar may do this itself at this content, the moment of a Whole aside. It takes no memory.
+    fn stands(&self, own: &Own) -> bool
+        ensures { result ≡ own_may_stand (state self.now) own.now };
+
     /// The content takes the step of a prepared entry, which is handed back. It takes no memory.
     fn settle(&mut self, prepared: Prepared) -> Entry
         requires { ready self.old prepared }
-        ensures step { state self.new ≡ after (state self.old) (event_of prepared.entry) }
-        ensures entry { result ≡ prepared.entry };
+
+        // The entry is still the one that its event makes.
+        ensures made { result ≡ entry_of (state self.old) (event_of result) }
+        ensures entry { result ≡ prepared.entry }
+
+        ensures step { state self.new ≡ after (state self.old) (event_of result) };
 }

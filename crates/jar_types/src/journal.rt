@@ -4,7 +4,7 @@ ghost use Rattle.std.specs.Prelude.{◌≡◌, ◌++◌, ◌∷◌, [], ◌+◌,
 ghost use Rattle.std.specs.Prelude.{option_copied, option_to_list};
 
 use crate::entry::Entry;
-use crate::memory::NoMemory;
+use jar_values::NoMemory;
 use std::alloc::Global;
 use std::marker::Model;
 
@@ -57,9 +57,12 @@ impl Journal {
         self.items.as_slice()
     }
 
-    /// Adds one at the end. Where memory is wanting the list stays, and the spare is no less.
+    /// Adds one at the end, and lowers the spare by one at most. Where memory is wanting the list stays, and the
+    /// spare is no less.
     pub fn push(&mut self, entry: Entry) -> Result<(), NoMemory>
         ensures ok { OnOk result (self.new.list ≡ self.old.list ++ entry ∷ []) }
+        ensures room { OnOk result (self.old.spare ≤ self.new.spare + 1) }
+
         ensures err { OnErr result (self.new.list ≡ self.old.list) }
         ensures spare { OnErr result (self.old.spare ≤ self.new.spare) }
     {
@@ -67,10 +70,11 @@ impl Journal {
         Ok(())
     }
 
-    /// Takes the last one out; none where there is none.
+    /// Takes the last one out, and there is room for it; none where there is none.
     pub fn pop(&mut self) -> Option<Entry>
         ensures taken { self.old.list ≡ self.new.list ++ option_to_list result }
         ensures none { IfNone result (self.old.list ≡ []) }
+        ensures spare { self.new.spare + length self.new.list ≡ self.old.spare + length self.old.list }
     {
         self.items.pop()
     }

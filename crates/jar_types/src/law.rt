@@ -1,6 +1,6 @@
 //! Laws of the definitions.
 
-ghost use Rattle.jar_types.specs.Journals.{JournalsGoOn, StatesGoOn};
+ghost use Rattle.jar_types.specs.JournalLaws.{CookiesRise, JournalsGoOn, StatesGoOn};
 
 /// A legal journal stays legal with the entry of an event that may come next.
 pub fn journals_go_on()
@@ -11,4 +11,10 @@ pub fn journals_go_on()
 #[tactic(auto, using(crate::proofs::JournalLemmas::state_push))]
 pub fn states_go_on()
     ensures { StatesGoOn }
+{}
+
+/// After a legal journal the cookies are in the order of their ids, no two of which are the same.
+#[tactic(auto, using(crate::proofs::RisingLemmas::cookies_rise))]
+pub fn cookies_rise()
+    ensures { CookiesRise }
 {}

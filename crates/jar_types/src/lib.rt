@@ -1,31 +1,28 @@
-//! The data of the jar: moments, texts, cookies, requests, ops, entries and journals, and the trait of its cores.
+//! The data of the jar: cookies, requests, ops, entries and journals, the trait of its cores, and what the jar of one
+//! thread does.
 #![tactic(auto)]
 
+mod change;
 mod cookie;
-mod cookies;
 mod entry;
 mod jar_core;
 mod journal;
 mod law;
-mod memory;
-mod moment;
 mod op;
 mod request;
-mod text;
-mod texts;
 
-pub use cookie::{Cookie, CookieId, Priority, SameSite};
-pub use cookies::Cookies;
+pub use change::{Cause, Change, Changes};
+pub use cookie::{Cookie, CookieId, Cookies};
 pub use entry::{Entry, Event, Own};
 pub use jar_core::{CoreRefusal, JarCore, Prepared};
+pub use jar_values::{
+    Copied, Listed, MAX_MOMENT, MAX_PAIR_BYTES, Moment, NoMemory, Priority, SameSite, TEXT_END,
+    Text, Texts, has_host_prefix, has_secure_prefix, is_blank, is_control, is_reserved,
+};
 pub use journal::Journal;
-pub use law::{journals_go_on, states_go_on};
-pub use memory::NoMemory;
-pub use moment::{MAX_MOMENT, Moment};
-pub use op::{Op, Reply};
-pub use request::{Context, Request};
-pub use text::Text;
-pub use texts::Texts;
+pub use law::{cookies_rise, journals_go_on, states_go_on};
+pub use op::{Op, REFRESH_AFTER, Reply};
+pub use request::{Context, Request, UNSAFE_GRACE};
 
 #[cfg(test)]
 mod tests;

@@ -2,11 +2,15 @@
 
 ghost use Rattle.std.specs.Prelude.{◌≡◌, IfOk};
 
-use crate::cookie::Cookie;
-use crate::cookies::Cookies;
-use crate::memory::NoMemory;
+use crate::cookie::{Cookie, Cookies};
 use crate::request::Request;
+use jar_values::NoMemory;
 use std::alloc::Global;
+
+/// After how many milliseconds a Get writes an access anew.
+///
+/// This jar's own rule: docs/DEFINITIONS.md.
+pub const REFRESH_AFTER: u64 = 60_000;
 
 /// What a caller asks.
 ///

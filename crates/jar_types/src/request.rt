@@ -2,9 +2,13 @@
 
 ghost use Rattle.std.specs.Prelude.{◌≡◌, IfOk};
 
-use crate::memory::NoMemory;
-use crate::text::Text;
+use jar_values::{NoMemory, Text};
 use std::alloc::Global;
+
+/// For how many milliseconds after its creation a cookie without SameSite goes along with an unsafe navigation.
+///
+/// This jar's own rule, after the 6265bis draft, section 5.6.7.2: docs/DEFINITIONS.md.
+pub const UNSAFE_GRACE: u64 = 120_000;
 
 /// How a request stands to the site that it is made for.
 ///

@@ -1,3 +1,2 @@
 pub mod SortLemmas
 pub mod AnswerLemmas
-pub mod IdLemmas

@@ -5,26 +5,14 @@ ghost use Rattle.jar_types.specs.Answers as answers;
 ghost use Rattle.plain_jar.specs.AnswerLaws.{AnswersAreOrdered};
 
 use crate::by_id::ById;
-use crate::expiry::is_expired;
+use crate::eligible::is_answered;
 use crate::order::answer_cmp;
 use jar_types::{Cookie, Moment, NoMemory, Request};
-use site_match::matches;
 use std::alloc::Global;
 
-/// The answer to a request has the cookies that it gets in one order, and no other list has: longer paths come first,
-/// then earlier creations, then lesser ids.
-pub fn answers_are_ordered()
-    ensures { AnswersAreOrdered }
-{}
-
-/// Whether a cookie is in the answer.
-pub fn is_answered(request: &Request, cookie: &Cookie, now: Moment) -> bool
-    ensures { result ≡ answers.is_answered request.now now cookie.now }
-{
-    matches(request, cookie, now) && !is_expired(cookie, now)
-}
-
 /// The cookies that a request gets, in their order.
+///
+/// RFC 6265, section 5.4, step 2.
 pub fn answer(
     alloc: Global,
     cookies: &ById,
@@ -45,7 +33,8 @@ fn found(
     request: &Request,
     now: Moment,
 ) -> Result<Vec<Cookie>, NoMemory>
-    ensures { IfOk result (λ found. found.items ≡ filter (answers.is_answered request.now now) cookies.now) }
+    ensures { IfOk result (λ found. found.items
+        ≡ filter (answers.is_answered request.now now) cookies.now) }
 {
     let mut found = Vec::new(alloc);
     for cookie in cookies {
@@ -55,3 +44,9 @@ fn found(
     }
     Ok(found)
 }
+
+/// The answer to a request has the cookies that it gets in one order, and no other list has: longer
+/// paths come first, then earlier creations, then lesser ids.
+pub fn answers_are_ordered()
+    ensures { AnswersAreOrdered }
+{}

@@ -1,15 +1,11 @@
 //! Cookies in the order of their ids.
 
-ghost use Rattle.std.specs.Prelude.{◌≡◌, ◌++◌, ◌∷◌, [], IfOk, map, option_copied, find};
-ghost use Rattle.jar_types.specs.Gets as gets;
+ghost use Rattle.std.specs.Prelude.{◌≡◌, ◌++◌, ◌∷◌, [], IfOk, option_copied};
 ghost use Rattle.jar_types.specs.Ids.{RisesById};
-ghost use Rattle.jar_types.specs.Purges as purges;
 ghost use Rattle.jar_types.specs.Sets as sets;
 
-use crate::access::serve_all;
-use crate::expiry::is_expired;
-use crate::order::id_cmp;
-use jar_types::{Cookie, Cookies, Moment, NoMemory, Request, Text};
+use crate::order::cookie_cmp;
+use jar_types::{Cookie, Cookies, NoMemory};
 use std::alloc::Global;
 use std::marker::Model;
 
@@ -41,6 +37,24 @@ impl ById {
         }
     }
 
+    /// The cookies of a vector, which it keeps.
+    pub fn from_vec(items: Vec<Cookie>) -> ById
+        requires { RisesById items.items }
+        ensures { result ≡ items.items }
+    {
+        ById {
+            cookies: Cookies::from_vec(items),
+        }
+    }
+
+    /// Their vector.
+    pub fn into_vec(self) -> Vec<Cookie>
+        ensures value { result.items ≡ self }
+        ensures rises { RisesById self }
+    {
+        self.cookies.into_vec()
+    }
+
     /// All of them.
     pub fn as_slice(&self) -> &[Cookie]
         ensures value { result.now ≡ self.now }
@@ -58,25 +72,14 @@ impl ById {
         })
     }
 
-    /// The cookies without those of a key that have expired.
-    pub fn purged(self, key: &Text, now: Moment) -> ById
-        ensures { result ≡ purges.purged key.now now self }
-    {
-        let mut left = self.cookies.into_vec();
-        purge(&mut left, key, now);
-        ById {
-            cookies: Cookies::from_vec(left),
-        }
-    }
-
-    /// The one with the id of a cookie.
+    /// The one with the id of a cookie; none where there is none.
     pub fn old_of(&self, cookie: &Cookie) -> Option<&Cookie>
         ensures { option_copied result ≡ sets.old_of cookie.now self.now }
     {
         self.cookies
             .as_slice()
             .iter()
-            .find(|other| id_cmp(cookie, other).is_eq())
+            .find(|other| cookie_cmp(cookie, other).is_eq())
     }
 
     /// The cookies with this one in the place of its id.
@@ -88,24 +91,6 @@ impl ById {
             cookies: Cookies::from_vec(cookies),
         })
     }
-
-    /// The cookies, with the access of those that a request gets refreshed.
-    pub fn served(self, request: &Request, now: Moment) -> ById
-        ensures { result ≡ map (gets.served request.now now) self }
-    {
-        let mut cookies = self.cookies.into_vec();
-        serve_all(cookies.as_mut_slice(), request, now);
-        ById {
-            cookies: Cookies::from_vec(cookies),
-        }
-    }
-}
-
-/// Takes out the cookies of a key that have expired.
-fn purge(cookies: &mut Vec<Cookie>, key: &Text, now: Moment)
-    ensures { cookies.new.items ≡ purges.purged key.now now cookies.old.items }
-{
-    cookies.retain(|cookie| !(cookie.key == *key && is_expired(cookie, now)));
 }
 
 /// The cookies of lesser ids, then this cookie, then those of greater ids.
@@ -115,7 +100,7 @@ fn set_among(alloc: Global, cookies: Vec<Cookie>, cookie: Cookie) -> Result<Vec<
     let mut lesser = Vec::new(alloc);
     let mut greater = Vec::new(alloc);
     for other in cookies {
-        let order = id_cmp(&other, &cookie);
+        let order = cookie_cmp(&other, &cookie);
         if order.is_lt() {
             lesser.push(other)?;
         } else if order.is_gt() {

@@ -1,24 +1,22 @@
-//! What a plain jar holds, and its steps.
+//! What a plain jar holds.
 
-ghost use Rattle.std.specs.Prelude.{◌≡◌, ◌<◌, ◌-◌, ◌^◌, IfOk};
+ghost use Rattle.std.specs.Prelude.{◌≡◌, ◌<◌, ◌-◌, ◌^◌, true, IfOk};
 ghost use Rattle.jar_types.specs.States.{opening};
 ghost use Rattle.jar_types.specs.Steps as steps;
 
 use crate::by_id::ById;
-use crate::get::get;
-use crate::set::set;
-use crate::stepped::Stepped;
-use jar_types::{Entry, Event, Moment, NoMemory, Op, Own};
+use jar_types::{NoMemory, Texts};
 use std::alloc::Global;
 use std::marker::Model;
 
 /// The content of a jar, seen as its state.
 #[derive(Drop)]
 pub struct Content {
-    cookies: ById,
-    whole: bool,
-    calls: u64,
-    entries: u64,
+    pub cookies: ById,
+    pub unloaded: Texts,
+    pub whole: bool,
+    pub calls: u64,
+    pub entries: u64,
 }
 
 impl Model for Content {
@@ -27,89 +25,65 @@ impl Model for Content {
 
     ghost Value = { JarState };
 
-    ghost view = { λ c. record { cookies = c.cookies; whole = c.whole; calls = c.calls; entries = c.entries } };
+    ghost view = { λ c. record {
+      cookies = c.cookies;
+      unloaded = c.unloaded;
+      whole = c.whole;
+      calls = c.calls;
+      entries = c.entries;
+    } };
 
     ghost invariant = { λ c. c.calls ≤ c.entries };
 }
 
 impl Content {
-    /// That of an empty jar.
-    pub fn new(alloc: Global) -> Content
-        ensures { result ≡ opening }
+    /// That of a jar in which these keys aren't loaded.
+    pub fn new(alloc: Global, keys: Texts) -> Content
+        ensures { result ≡ opening keys }
     {
         Content {
             cookies: ById::new(alloc),
+            unloaded: keys,
             whole: false,
             calls: 0,
             entries: 0,
         }
     }
 
-    /// The content after an event, and the entry that the event makes.
-    pub fn after(&self, alloc: Global, event: &Event) -> Result<(Content, Entry), NoMemory>
-        requires { self.now.entries < 2 ^ 64 - 1 }
-        ensures content { IfOk result (λ next. next.0 ≡ steps.after self.now event.now) }
-        ensures entry { IfOk result (λ next. next.1 ≡ steps.entry_of self.now event.now) }
+    /// The same content with other cookies.
+    pub fn with_cookies(&self, alloc: Global, cookies: ById) -> Result<Content, NoMemory>
+        ensures { IfOk result (λ next. next ≡ record self.now { cookies = cookies }) }
     {
-        match event {
-            Event::Call { caller, now, op } => self.called(alloc, *caller, *now, op),
-            Event::Jar(own) => Ok((self.own_step(alloc, *own)?, Entry::Jar(*own))),
-        }
-    }
-
-    /// The content after a caller's op, and its entry.
-    fn called(
-        &self,
-        alloc: Global,
-        caller: u32,
-        now: Moment,
-        op: &Op,
-    ) -> Result<(Content, Entry), NoMemory>
-        requires { self.now.entries < 2 ^ 64 - 1 }
-        ensures content { IfOk result (λ next. next.0 ≡ steps.called self.now now op.now) }
-        ensures entry { IfOk result (λ next. next.1 ≡ Entry.Call caller now op.now (steps.op_step self.now now op.now).reply) }
-    {
-        let Stepped { cookies, reply } = self.op_step(alloc, now, op)?;
-        let next = Content {
+        Ok(Content {
             cookies,
+            unloaded: self.unloaded.copy(alloc)?,
             whole: self.whole,
-            calls: self.calls + 1,
-            entries: self.entries + 1,
-        };
-        let op = op.copy(alloc)?;
-        Ok((
-            next,
-            Entry::Call {
-                caller,
-                now,
-                op,
-                reply,
-            },
-        ))
+            calls: self.calls,
+            entries: self.entries,
+        })
     }
 
-    /// The cookies after an op, and the reply to it.
-    fn op_step(&self, alloc: Global, now: Moment, op: &Op) -> Result<Stepped, NoMemory>
-        ensures { IfOk result (λ s. s ≡ steps.op_step self.now now op.now) }
+    /// Notes one more entry of a caller.
+    pub fn count_call(&mut self)
+        requires { self.old.entries < 2 ^ 64 - 1 }
+        ensures { self.new ≡ steps.called self.old }
     {
-        match op {
-            Op::Set { cookie, .. } => set(alloc, &self.cookies, cookie, now),
-            Op::Get(request) => get(alloc, &self.cookies, request, now),
-        }
+        self.calls += 1;
+        self.entries += 1;
     }
 
-    /// The content after what the jar does itself.
-    fn own_step(&self, alloc: Global, own: Own) -> Result<Content, NoMemory>
-        requires { self.now.entries < 2 ^ 64 - 1 }
-        ensures { IfOk result (λ next. next ≡ steps.own_step self.now own) }
+    /// Notes one more entry of the jar's own.
+    pub fn count_own(&mut self)
+        requires { self.old.entries < 2 ^ 64 - 1 }
+        ensures { self.new ≡ steps.noted self.old }
     {
-        match own {
-            Own::Whole(_) => Ok(Content {
-                cookies: self.cookies.copy(alloc)?,
-                whole: true,
-                calls: self.calls,
-                entries: self.entries + 1,
-            }),
-        }
+        self.entries += 1;
+    }
+
+    /// Notes that each key is loaded.
+    pub fn become_whole(&mut self)
+        ensures { self.new ≡ record self.old { whole = true } }
+    {
+        self.whole = true;
     }
 }

@@ -3,9 +3,10 @@
 ghost use Rattle.std.specs.Prelude.{◌≡◌, IfOk};
 ghost use Rattle.jar_types.specs.Gets.{get_step};
 
-use crate::access::refresh_all;
+use crate::access::{refresh_all, served};
 use crate::answer::answer;
-use crate::by_id::ById;
+use crate::content::Content;
+use crate::purge::purged;
 use crate::stepped::Stepped;
 use jar_types::{Cookies, Moment, NoMemory, Reply, Request};
 use std::alloc::Global;
@@ -15,17 +16,18 @@ use std::alloc::Global;
 /// RFC 6265, section 5.4.
 pub fn get(
     alloc: Global,
-    cookies: &ById,
-    request: &Request,
+    content: &Content,
     now: Moment,
+    request: &Request,
 ) -> Result<Stepped, NoMemory>
-    ensures { IfOk result (λ s. s ≡ get_step cookies.now request.now now) }
+    ensures content { IfOk result (λ s. s.content ≡ (get_step content.now now request.now).state) }
+    ensures reply { IfOk result (λ s. s.reply ≡ (get_step content.now now request.now).reply) }
 {
-    let left = cookies.copy(alloc)?.purged(&request.key, now);
+    let left = purged(content.cookies.copy(alloc)?, &request.key, now);
     let mut listed = answer(alloc, &left, request, now)?;
     refresh_all(listed.as_mut_slice(), now);
     Ok(Stepped {
-        cookies: left.served(request, now),
+        content: content.with_cookies(alloc, served(left, request, now))?,
         reply: Reply::Cookies(Cookies::from_vec(listed)),
     })
 }

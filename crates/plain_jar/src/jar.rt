@@ -1,13 +1,15 @@
 //! The jar.
 
 use crate::content::Content;
-use jar_types::{CoreRefusal, Entry, Event, JarCore, NoMemory, Prepared, Texts};
+use crate::step::{Next, step};
+use jar_types::{CoreRefusal, Entry, Event, JarCore, NoMemory, Own, Prepared, Texts};
 use std::alloc::Global;
 use std::marker::Model;
 
 /// A jar whose content is a plain list of cookies, seen as its state and the next one.
 ///
-/// An entry that was made ready has the whole content after it beside it, so settling takes no memory.
+/// An entry that was made ready has the whole content after it beside it, so settling takes no
+/// memory.
 #[derive(Drop)]
 pub struct PlainJar {
     content: Content,
@@ -23,24 +25,30 @@ impl Model for PlainJar {
 }
 
 impl JarCore for PlainJar {
-    ghost use Rattle.std.specs.Prelude.{◌≡◌, Some};
-    ghost use Rattle.jar_types.specs.Steps.{after, event_of};
+    ghost use Rattle.plain_jar.specs.Contents.{IsReady};
 
     ghost state = { λ j. j.state };
 
-    ghost ready = { λ j p. j.next ≡ Some (after j.state (event_of p.entry)) };
+    ghost ready = { λ j p. IsReady j p.entry };
 
-    fn fresh(alloc: Global, _keys: Texts) -> Result<PlainJar, NoMemory> {
+    fn fresh(alloc: Global, keys: Texts) -> Result<PlainJar, NoMemory> {
         Ok(PlainJar {
-            content: Content::new(alloc),
+            content: Content::new(alloc, keys),
             next: None,
         })
     }
 
+    #[tactic(auto, using(jar_types::proofs::JournalLemmas::event_back))]
     fn prepare(&mut self, alloc: Global, event: &Event) -> Result<Prepared, CoreRefusal> {
-        let (next, entry) = self.content.after(alloc, event)?;
-        self.next = Some(next);
+        let Next { content, entry } = step(alloc, &self.content, event)?;
+        self.next = Some(content);
         Ok(Prepared { entry })
+    }
+
+    fn stands(&self, own: &Own) -> bool {
+        match own {
+            Own::Whole(_) => !self.content.whole && self.content.unloaded.len() == 0,
+        }
     }
 
     fn settle(&mut self, prepared: Prepared) -> Entry {

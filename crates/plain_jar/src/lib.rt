@@ -5,11 +5,13 @@ mod access;
 mod answer;
 mod by_id;
 mod content;
-mod expiry;
+mod eligible;
 mod get;
 mod jar;
 mod order;
+mod purge;
 mod set;
+mod step;
 mod stepped;
 
 pub use answer::answers_are_ordered;

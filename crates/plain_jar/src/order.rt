@@ -7,19 +7,20 @@ ghost use Rattle.jar_types.specs.Ids as ids;
 use jar_types::Cookie;
 use std::cmp::Ordering;
 
-/// The order of two ids: by host, then name, then path.
-pub fn id_cmp(c: &Cookie, d: &Cookie) -> Ordering
-    ensures { result ≡ ids.id_cmp c.now d.now }
+/// The order of the ids of two cookies: by host, then name, then path.
+pub fn cookie_cmp(c: &Cookie, d: &Cookie) -> Ordering
+    ensures { result ≡ ids.cookie_cmp c.now d.now }
 {
     c.host
         .cmp(&d.host)
         .then(c.name.cmp(&d.name).then(c.path.cmp(&d.path)))
 }
 
-/// The order of two cookies in an answer: longer paths first, then earlier creations, then lesser ids.
+/// The order of two cookies in an answer: longer paths first, then earlier creations, then lesser
+/// ids.
 pub fn answer_cmp(c: &Cookie, d: &Cookie) -> Ordering
     ensures { result ≡ answers.answer_cmp c.now d.now }
 {
     let by_path = d.path.as_str().len().cmp(&c.path.as_str().len());
-    by_path.then(c.creation.cmp(&d.creation).then(id_cmp(c, d)))
+    by_path.then(c.creation.cmp(&d.creation).then(cookie_cmp(c, d)))
 }

@@ -1,6 +1,6 @@
 //! The jar at small worked cases, with ample memory.
 
-ghost use Rattle.std.specs.Prelude.{◌+◌, ◌-◌, ◌^◌, ◌<◌, ◌≤◌, length};
+ghost use Rattle.std.specs.Prelude.{◌≡◌, ◌+◌, ◌-◌, ◌^◌, ◌<◌, ◌≤◌, length};
 
 use crate::PlainJar;
 use jar_types::{
@@ -13,6 +13,19 @@ use std::test::Fail;
 /// A Set of a cookie of this name and path at a moment; without a name a Get of `/docs/web`.
 type Row = (&'static str, &'static str, u64);
 
+/// When the cookies named `brief` expire, in milliseconds.
+const BRIEF: u64 = 100;
+
+/// The expiry of a cookie of this name.
+fn expiry_of(name: &str) -> Option<Moment> {
+    if name == "brief" {
+        Moment::of(BRIEF)
+    } else {
+        None
+    }
+}
+
+/// A cookie of `h.test`.
 fn cookie(alloc: Global, name: &str, path: &str, at: Moment) -> Result<Cookie, NoMemory> {
     Ok(Cookie {
         key: Text::of(alloc, "h.test")?,
@@ -22,7 +35,7 @@ fn cookie(alloc: Global, name: &str, path: &str, at: Moment) -> Result<Cookie, N
         value: Text::of(alloc, "1")?,
         creation: at,
         access: at,
-        expiry: None,
+        expiry: expiry_of(name),
         secure: false,
         http_only: false,
         same_site: SameSite::Unspecified,
@@ -30,6 +43,7 @@ fn cookie(alloc: Global, name: &str, path: &str, at: Moment) -> Result<Cookie, N
     })
 }
 
+/// A request of `h.test`.
 fn request(alloc: Global) -> Result<Request, NoMemory> {
     Ok(Request {
         key: Text::of(alloc, "h.test")?,
@@ -41,6 +55,7 @@ fn request(alloc: Global) -> Result<Request, NoMemory> {
     })
 }
 
+/// The op of a row.
 fn op(alloc: Global, name: &str, path: &str, at: Moment) -> Result<Op, NoMemory> {
     if name.is_empty() {
         return Ok(Op::Get(request(alloc)?));
@@ -75,6 +90,7 @@ fn listed(alloc: Global, cookies: &Cookies) -> Result<String, Fail> {
     Ok(text)
 }
 
+/// The words of a reply.
 fn reply_text(alloc: Global, reply: &Reply) -> Result<String, Fail> {
     match reply {
         Reply::Stored => Ok(String::from_str(alloc, "stored;")?),
@@ -83,6 +99,7 @@ fn reply_text(alloc: Global, reply: &Reply) -> Result<String, Fail> {
     }
 }
 
+/// Those of an entry.
 fn entry_text(alloc: Global, entry: &Entry) -> Result<String, Fail> {
     match entry {
         Entry::Call { reply, .. } => reply_text(alloc, reply),
@@ -125,6 +142,53 @@ fn an_access_is_written_anew_after_a_minute(rt: HostRuntime) -> Result<(), Fail>
     ];
     let text = replies(rt.alloc(), &mut jar, &rows)?;
     assert_eq!(rt; text.as_str(), "stored;a 0 0;a 0 60000;a 0 60000;");
+    Ok(())
+}
+
+#[test]
+fn a_cookie_leaves_at_its_expiry(rt: HostRuntime) -> Result<(), Fail> {
+    let mut jar = PlainJar::fresh(rt.alloc(), Texts::new(rt.alloc()))?;
+    let rows = [
+        ("brief", "/", 0),
+        ("", "", 99),
+        ("", "", 100),
+        ("brief", "/", 99),
+    ];
+    let text = replies(rt.alloc(), &mut jar, &rows)?;
+    assert_eq!(rt; text.as_str(), "stored;brief 0 0;stored;");
+    Ok(())
+}
+
+#[test]
+fn an_expired_cookie_is_not_replaced(rt: HostRuntime) -> Result<(), Fail> {
+    let mut jar = PlainJar::fresh(rt.alloc(), Texts::new(rt.alloc()))?;
+    let rows = [("brief", "/", 0), ("brief", "/", 99), ("brief", "/", 100)];
+    let text = replies(rt.alloc(), &mut jar, &rows)?;
+    assert_eq!(rt; text.as_str(), "stored;replaced;stored;");
+    Ok(())
+}
+
+/// Has a Set made ready, and drops it.
+fn drop_a_set(alloc: Global, jar: &mut PlainJar, now: Moment) -> Result<(), Fail>
+    requires { jar.old.state.entries < 2 ^ 64 - 1 }
+    ensures { jar.new.state ≡ jar.old.state }
+{
+    let event = Event::Call {
+        caller: 0,
+        now,
+        op: op(alloc, "a", "/", now)?,
+    };
+    jar.prepare(alloc, &event)?;
+    Ok(())
+}
+
+#[test]
+fn an_entry_that_is_dropped_changes_nothing(rt: HostRuntime) -> Result<(), Fail> {
+    let mut jar = PlainJar::fresh(rt.alloc(), Texts::new(rt.alloc()))?;
+    let now = Moment::of(5).ok_or("past the last moment")?;
+    drop_a_set(rt.alloc(), &mut jar, now)?;
+    let text = replies(rt.alloc(), &mut jar, &[("b", "/", 5), ("", "", 5)])?;
+    assert_eq!(rt; text.as_str(), "stored;b 5 5;");
     Ok(())
 }
 

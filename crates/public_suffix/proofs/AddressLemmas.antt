@@ -1,12 +1,13 @@
 -- The last label of a host.
-use Rattle.std.proofs.Common.{ℕ, ◌-◌, ◌+◌, ◌<◌, ◌≤◌, ◌≡◌, true, false, List, length, drop, get_or, ap, subst, arith}
-use Rattle.std.specs.Prelude.{◌==◌, not, IsUtf8}
-use Rattle.std.specs.Str.{IsCharBoundary}
+use Rattle.std.proofs.Common.{Bor, Option, None, Some, MatchOption, length-drop, ◌∙◌, ℕ, ◌-◌, ◌<◌, ◌≤◌, ◌≡◌, true, false, List, length, drop, get_or, ap, arith}
+use Rattle.std.specs.Prelude.{◌==◌, not}
 use Rattle.std.proofs.lemmas.Bool.Decides.{nat_tests}
 use Rattle.std.proofs.lemmas.List.Sums.{suffix_len_is}
-use Rattle.std.proofs.lemmas.Str.{IsCharBoundary-after_ascii}
+use Rattle.std.proofs.lemmas.List.{get_or-drop}
+use Rattle.std.proofs.lemmas.Str.Pattern.{NoCharPasses-char}
+use Rattle.std.specs.Str.Pattern.{RFindsChar, SplitsAroundMatch}
 use Rattle.std.specs.List.{suffix_len}
-use Rattle.jar_types.specs.Hosts.{last_label}
+use Rattle.jar_values.specs.Hosts.{last_label}
 
 not_same : (x y : ℕ) → (x ≡ y → ⊥) → not (x == y) ≡ true
 not_same x y other = grind (arith, nat_tests)
@@ -22,8 +23,10 @@ last_label-drop host n within none dot =
     let start : n ≡ length host - suffix_len (λ b. not (b == 46)) host = omega arith in
     ap (λ (k : ℕ). drop k host) start
 
--- a text may be cut after a dot
-pub IsCharBoundary-after_dot : (host : List ℕ) (n : ℕ) → IsUtf8 host → 0 < n → n ≤ length host → get_or host (n - 1) 0 ≡ 46 → IsCharBoundary host n
-IsCharBoundary-after_dot host n utf8 some within dot =
-    let here : n - 1 + 1 ≡ n = omega arith in
-    subst (λ (k : ℕ). IsCharBoundary host k) here (IsCharBoundary-after_ascii host (n - 1) utf8 (omega arith) (omega arith))
+-- the last label is what `rsplit_once` gives after a dot, or the whole without one
+pub last_label-rsplit : (host : List ℕ) (r : Option (Bor (List ℕ) × Bor (List ℕ))) → MatchOption r (RFindsChar 46 host None) (λ x. SplitsAroundMatch (RFindsChar 46) host x.0.now x.1.now) → MatchOption r (host ≡ last_label host) (λ x. x.1.now ≡ last_label host)
+last_label-rsplit host None none =
+    last_label-drop host 0 (omega arith) (λ k _ below. NoCharPasses-char 46 host k none (omega arith) below) (λ some. absurd (omega arith))
+last_label-rsplit host (Some x) cut =
+    let at = cut.2 in
+    cut.4 ∙ last_label-drop host cut.1 (omega arith) (λ k from below dot. NoCharPasses-char 46 (drop cut.1 host) (k - cut.1) at.0 (omega arith) (omega (arith, length-drop cut.1 host)) (get_or-drop cut.1 host (k - cut.1) 0 ∙ ap (λ (n : ℕ). get_or host n 0) (omega arith) ∙ dot)) (λ some. ap (λ (n : ℕ). get_or host n 0) (omega (arith, at.1.ends)) ∙ at.1.byte (omega arith))

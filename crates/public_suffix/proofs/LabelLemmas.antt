@@ -10,7 +10,7 @@ use Rattle.std.proofs.lemmas.Grind.{common_steps}
 use Rattle.std.specs.Str.{bytes_eq}
 use Rattle.public_suffix.specs.Labels.{has_suffix, labels_of, dotted, same_labels, is_empty, last_labels}
 use Rattle.public_suffix.specs.Rule.{rule_labels}
-use Rattle.jar_types.specs.Hosts.{is_ip_host}
+use Rattle.jar_values.specs.Hosts.{is_ip_host}
 
 -- a text without the byte has one part
 pub split_none : (p : ℕ → Bool) (xs : List ℕ) → position_or_len p xs ≡ length xs → slice_split p xs ≡ xs ∷ []
@@ -85,14 +85,10 @@ last_labels-all n ls few = let none : length ls - n ≡ 0 = omega arith in ap (�
 pub last_labels-few : (n : ℕ) (ls : List (List ℕ)) → 0 < n → last_labels n ls ≡ ls → length ls ≤ n
 last_labels-few n ls some same = omega (arith, ap length same ∙ refl, length-drop (length ls - n) ls)
 
+-- where neither is true the second isn't
 pub or_false : (a b : Bool) → (a || b) ≡ false → b ≡ false
 or_false true b none = absurd (cc)
 or_false false b none = none
-
--- of labels of which none is empty, those after the first are labels of a rule
-pub rule_labels-rest : (host l rest : List ℕ) → list_any is_empty (labels_of host) ≡ false → labels_of host ≡ l ∷ labels_of rest → labels_of host ≡ l ∷ rule_labels rest
-rule_labels-rest host l rest full parts =
-    parts ∙ ap (λ (ls : List (List ℕ)). l ∷ ls) (sym (rule_labels-labels_of rest (or_false (is_empty l) _ (ap (list_any is_empty) (sym parts) ∙ full))))
 
 -- a host with a suffix has no empty label
 pub has_suffix-full : (host : List ℕ) → has_suffix host ≡ true → list_any is_empty (labels_of host) ≡ false

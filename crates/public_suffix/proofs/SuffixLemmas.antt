@@ -1,16 +1,19 @@
 -- The most labels of a matching rule, one last label at a time.
-use Rattle.std.proofs.Common.{ℕ, ◌+◌, ◌≤◌, ◌≡◌, Bool, true, false, List, [], ◌∷◌, length, refl, ap, sym, ◌∙◌, arith}
-use Rattle.std.specs.Prelude.{◌||◌, ◌&&◌, map}
+use Rattle.std.proofs.Common.{ℕ, zero, suc, ◌+◌, ◌≤◌, ◌≡◌, Bool, true, false, List, [], ◌∷◌, length, refl, ap, sym, ◌∙◌, arith}
+use Rattle.std.specs.Prelude.{◌||◌, ◌&&◌, map, if◌then◌else◌}
 use Rattle.std.specs.List.{list_any}
 use Rattle.public_suffix.specs.declared.rule.Mark.{Mark}
 use Rattle.public_suffix.specs.declared.rule.Mark.TheVariants.{Plain, Wildcard, Exception}
-use Rattle.public_suffix.specs.Labels.{same_labels, labels_of, is_empty}
-use Rattle.public_suffix.specs.Rule.{SuffixRule, rule_labels, same_mark, is_rule}
+use Rattle.public_suffix.specs.Labels.{same_labels}
+use Rattle.public_suffix.specs.Rule.{SuffixRule, rule_labels}
 use Rattle.public_suffix.specs.declared.rule.Rule.{Rule}
 use Rattle.public_suffix.specs.Seen.{rule_seen}
 use Rattle.std.specs.Str.{bytes_eq}
-use Rattle.public_suffix.specs.Suffix.{fits_by, fits, label_count, matched_labels, most_labels, of_kind}
-use Rattle.public_suffix.proofs.LabelLemmas.{labels_some, rule_labels-labels_of, same_labels-rule_labels, same_labels-Decides}
+use Rattle.public_suffix.specs.Suffix.{fits_by, fits, label_count, matched_labels, most_labels, exceptions, other_rules, suffix_len_by}
+use Rattle.public_suffix.specs.declared.marks.Marks.{Marks}
+use Rattle.public_suffix.specs.declared.found.Found.{Found}
+use Rattle.public_suffix.specs.Tables.{AreMarksOf, IsFoundOf, same_mark, is_rule}
+use Rattle.public_suffix.proofs.LabelLemmas.{same_labels-rule_labels, same_labels-Decides}
 
 -- a rule whose labels those are has as many
 pub fits_count : (mark : Mark) (rule labels : List (List ℕ)) → fits_by mark rule labels ≡ true → label_count mark rule ≡ length labels
@@ -63,13 +66,13 @@ most_labels-miss l ls (rule ∷ rules) none =
     ] refl none
 
 -- one rule more, among the exceptions
-exceptions_more : (mark : Mark) (rule host : List (List ℕ)) (rules : List SuffixRule) (rest : Bool) → list_any (fits host) (of_kind true rules) ≡ rest → list_any (fits host) (of_kind true (record { mark = mark; labels = rule } ∷ rules)) ≡ (same_mark mark Exception && same_labels rule host || rest)
+exceptions_more : (mark : Mark) (rule host : List (List ℕ)) (rules : List SuffixRule) (rest : Bool) → list_any (fits host) (exceptions rules) ≡ rest → list_any (fits host) (exceptions (record { mark = mark; labels = rule } ∷ rules)) ≡ (same_mark mark Exception && same_labels rule host || rest)
 exceptions_more Plain rule host rules rest same = same
 exceptions_more Wildcard rule host rules rest same = same
 exceptions_more Exception rule host rules rest same = ap (λ b. same_labels rule host || b) same
 
 -- labels are those of an exception exactly where the list has it
-pub exceptions_fit : (host : List (List ℕ)) (rules : List SuffixRule) → list_any (fits host) (of_kind true rules) ≡ list_any (is_rule Exception host) rules
+pub exceptions_fit : (host : List (List ℕ)) (rules : List SuffixRule) → list_any (fits host) (exceptions rules) ≡ list_any (is_rule Exception host) rules
 exceptions_fit host [] = refl
 exceptions_fit host (rule ∷ rules) = exceptions_more rule.mark rule.labels host rules (list_any (is_rule Exception host) rules) (exceptions_fit host rules)
 
@@ -84,13 +87,13 @@ or_right false true b = refl
 or_right false false b = refl
 
 -- one rule more, among those that are no exceptions
-others_more : (mark : Mark) (rule : List (List ℕ)) (l : List ℕ) (ls : List (List ℕ)) (rules : List SuffixRule) (plain wild : Bool) → list_any (fits (l ∷ ls)) (of_kind false rules) ≡ (plain || wild) → list_any (fits (l ∷ ls)) (of_kind false (record { mark = mark; labels = rule } ∷ rules)) ≡ ((same_mark mark Plain && same_labels rule (l ∷ ls) || plain) || (same_mark mark Wildcard && same_labels rule ls || wild))
+others_more : (mark : Mark) (rule : List (List ℕ)) (l : List ℕ) (ls : List (List ℕ)) (rules : List SuffixRule) (plain wild : Bool) → list_any (fits (l ∷ ls)) (other_rules rules) ≡ (plain || wild) → list_any (fits (l ∷ ls)) (other_rules (record { mark = mark; labels = rule } ∷ rules)) ≡ ((same_mark mark Plain && same_labels rule (l ∷ ls) || plain) || (same_mark mark Wildcard && same_labels rule ls || wild))
 others_more Plain rule l ls rules plain wild same = ap (λ b. same_labels rule (l ∷ ls) || b) same ∙ or_left (same_labels rule (l ∷ ls)) plain wild
 others_more Wildcard rule l ls rules plain wild same = ap (λ b. same_labels rule ls || b) same ∙ or_right (same_labels rule ls) plain wild
 others_more Exception rule l ls rules plain wild same = same
 
 -- labels are those of another rule exactly where the list has them as a plain rule, or those after the first as a wildcard
-pub others_fit : (l : List ℕ) (ls : List (List ℕ)) (rules : List SuffixRule) → list_any (fits (l ∷ ls)) (of_kind false rules) ≡ (list_any (is_rule Plain (l ∷ ls)) rules || list_any (is_rule Wildcard ls) rules)
+pub others_fit : (l : List ℕ) (ls : List (List ℕ)) (rules : List SuffixRule) → list_any (fits (l ∷ ls)) (other_rules rules) ≡ (list_any (is_rule Plain (l ∷ ls)) rules || list_any (is_rule Wildcard ls) rules)
 others_fit l ls [] = refl
 others_fit l ls (rule ∷ rules) = others_more rule.mark rule.labels l ls rules (list_any (is_rule Plain (l ∷ ls)) rules) (list_any (is_rule Wildcard ls) rules) (others_fit l ls rules)
 
@@ -99,23 +102,36 @@ pub rules_seen : (mark : Mark) (text : List ℕ) (rules : List Rule) → list_an
 rules_seen mark text [] = refl
 rules_seen mark text (rule ∷ rules) = rw (same_labels-rule_labels rule.text text, rules_seen mark text rules)
 
--- the labels of a host are those of another rule exactly where the list has it, or a wildcard of those after the first
-pub others_of : (host l : List ℕ) (ls : List (List ℕ)) (rules : List SuffixRule) → list_any is_empty (labels_of host) ≡ false → labels_of host ≡ l ∷ ls → list_any (fits (labels_of host)) (of_kind false rules) ≡ (list_any (is_rule Plain (rule_labels host)) rules || list_any (is_rule Wildcard ls) rules)
-others_of host l ls rules full parts =
-    ap (λ (hs : List (List ℕ)). list_any (fits hs) (of_kind false rules)) parts ∙ others_fit l ls rules
-    ∙ ap (λ (hs : List (List ℕ)). list_any (is_rule Plain hs) rules || list_any (is_rule Wildcard ls) rules) (sym parts ∙ sym (rule_labels-labels_of host full))
+-- with one label more the most is all of them where they are those of a rule, else as before
+most_labels-one : (fit : Bool) (l : List ℕ) (ls : List (List ℕ)) (rules : List SuffixRule) (count before : ℕ) → count ≡ length ls + 1 → list_any (fits (l ∷ ls)) rules ≡ fit → before ≡ most_labels ls rules → (if fit then count else before) ≡ most_labels (l ∷ ls) rules
+most_labels-one true l ls rules count before counted fit was = counted ∙ sym (most_labels-hit l ls rules fit)
+most_labels-one false l ls rules count before counted misfit was = was ∙ sym (most_labels-miss l ls rules misfit)
 
--- where a host's labels are those of a rule, the most is all of them
-pub most_labels-all : (host : List ℕ) (rules : List SuffixRule) → list_any (fits (labels_of host)) rules ≡ true → most_labels (labels_of host) rules ≡ length (labels_of host)
-most_labels-all host rules any =
-    let some = labels_some host in
-    let parts = some.2 in
-    ap (λ (hs : List (List ℕ)). most_labels hs rules) parts
-    ∙ most_labels-hit some.0 some.1 rules (ap (λ (hs : List (List ℕ)). list_any (fits hs) rules) (sym parts) ∙ any)
-    ∙ (let n : length (some.0 ∷ some.1) ≡ length some.1 + 1 = omega arith in sym n) ∙ ap length (sym parts)
+-- what is found of no labels
+pub found_none : (rules : List SuffixRule) (marks : Marks) → AreMarksOf rules [] marks → IsFoundOf rules [] (record { count = 0; exception = 0; other = 0; marks = marks })
+found_none rules marks are = record {
+  count = refl;
+  exception = sym (most_labels-nil (exceptions rules));
+  other = sym (most_labels-nil (other_rules rules));
+  marks = are;
+}
 
--- where they are those of none, the most is that of the labels after the first
-pub most_labels-next : (host l : List ℕ) (ls : List (List ℕ)) (rules : List SuffixRule) → labels_of host ≡ l ∷ ls → list_any (fits (labels_of host)) rules ≡ false → most_labels (labels_of host) rules ≡ most_labels ls rules
-most_labels-next host l ls rules parts none =
-    ap (λ (hs : List (List ℕ)). most_labels hs rules) parts
-    ∙ most_labels-miss l ls rules (ap (λ (hs : List (List ℕ)). list_any (fits hs) rules) (sym parts) ∙ none)
+either : (a b : Bool) (x y : ℕ) → (if a then x else (if b then x else y)) ≡ (if a || b then x else y)
+either true b x y = refl
+either false b x y = refl
+
+-- and of one label more
+pub found_more : (rules : List SuffixRule) (l : List ℕ) (ls : List (List ℕ)) (found : Found) (marks : Marks) (exception other : ℕ) → exception ≡ (if marks.exception then found.count + 1 else found.exception) → other ≡ (if marks.plain then found.count + 1 else (if found.marks.wildcard then found.count + 1 else found.other)) → IsFoundOf rules ls found → AreMarksOf rules (l ∷ ls) marks → IsFoundOf rules (l ∷ ls) (record { count = found.count + 1; exception = exception; other = other; marks = marks })
+found_more rules l ls found marks exception other excepted others is are =
+    let counted : found.count + 1 ≡ length ls + 1 = ap (λ (n : ℕ). n + 1) is.count in record {
+      count = counted ∙ (let more : length (l ∷ ls) ≡ length ls + 1 = omega arith in sym more);
+      exception = excepted ∙ most_labels-one marks.exception l ls (exceptions rules) (found.count + 1) found.exception counted (exceptions_fit (l ∷ ls) rules ∙ sym (are Exception)) is.exception;
+      other = others ∙ either marks.plain found.marks.wildcard (found.count + 1) found.other ∙ most_labels-one (marks.plain || found.marks.wildcard) l ls (other_rules rules) (found.count + 1) found.other counted
+          (others_fit l ls rules ∙ ap (λ (b : Bool). b || list_any (is_rule Wildcard ls) rules) (sym (are Plain)) ∙ ap (λ (b : Bool). marks.plain || b) (sym (is.marks Wildcard))) is.other;
+      marks = are;
+    }
+
+-- the suffix has no more labels than the most that match, or one
+pub suffix_len_by-le : (exception other n : ℕ) → exception ≤ n → other ≤ n → 1 ≤ n → suffix_len_by exception other ≤ n
+suffix_len_by-le zero other n a b c = omega arith
+suffix_len_by-le (suc fewer) other n a b c = omega arith

@@ -1,8 +1,9 @@
--- The labels of a host: its parts between dots. RFC 1034, section 3.1, as the Public Suffix List format uses them.
+-- The labels of a host: its parts between dots. RFC 1034, section 3.1, as the Public Suffix List
+-- format uses them.
 use Rattle.std.specs.Prelude.{ℕ, ◌-◌, ◌==◌, Bool, ◌&&◌, not, List, length, drop}
 use Rattle.std.specs.Cmp.Lexicographic.{pointwise}
 use Rattle.std.specs.List.{slice_split, join_with_byte, list_any}
-use Rattle.jar_types.specs.Hosts.{is_ip_host}
+use Rattle.jar_values.specs.Hosts.{is_ip_host}
 
 -- the labels of a text, which dots part
 abbrev pub labels_of : List ℕ → List (List ℕ)

@@ -3,5 +3,7 @@ pub mod Rule
 pub mod Suffix
 pub mod SuffixList
 pub mod Seen
-pub use Rattle.jar_types.specs.Hosts
+pub mod Refusals
+pub mod Steps
 pub mod Tables
+pub use Rattle.jar_values.specs.Hosts

@@ -1,6 +1,6 @@
--- Rules of a suffix list, and what a line of one says. The Public Suffix List format; this jar lets `*` stand
--- only as a rule's first label.
-use Rattle.std.specs.Prelude.{ℕ, ◌==◌, Bool, true, false, ◌&&◌, ◌||◌, not, nat_lt, List, [], ◌∷◌, length, drop, codes, Option, Some, None, if◌then◌else◌}
+-- Rules of a suffix list, and what a line of one says. The Public Suffix List format; this jar lets
+-- `*` stand only as a rule's first label.
+use Rattle.std.specs.Prelude.{ℕ, ◌==◌, Bool, ◌&&◌, ◌||◌, not, nat_lt, List, [], ◌∷◌, length, drop, codes, Option, Some, None, if◌then◌else◌}
 use Rattle.std.specs.Option.{option_and_then}
 use Rattle.std.specs.Str.{bytes_eq}
 use Rattle.std.specs.List.{starts_with, list_any, before_first}
@@ -8,23 +8,12 @@ use Rattle.idna.specs.Uts46.{domain_to_ascii}
 use Rattle.idna.specs.declared.deny_list.TheConstants.AsciiDenyList.{URL}
 use Rattle.public_suffix.specs.declared.rule.Mark.{Mark}
 use Rattle.public_suffix.specs.declared.rule.Mark.TheVariants.{Plain, Wildcard, Exception}
-use Rattle.public_suffix.specs.Labels.{labels_of, same_labels, is_empty}
+use Rattle.public_suffix.specs.Labels.{labels_of, is_empty}
 
 -- a rule: its mark, and its labels after the mark
 pub record SuffixRule : Type 0 where
   pub mark : Mark
   pub labels : List (List ℕ)
-
--- whether two marks are the same
-abbrev pub same_mark : Mark → Mark → Bool
-same_mark Plain Plain = true
-same_mark Wildcard Wildcard = true
-same_mark Exception Exception = true
-same_mark _ _ = false
-
--- whether a rule is the one of a mark and labels
-abbrev pub is_rule : Mark → List (List ℕ) → SuffixRule → Bool
-is_rule mark labels rule = same_mark rule.mark mark && same_labels rule.labels labels
 
 -- what a line says
 pub data Reading : Type 0 where

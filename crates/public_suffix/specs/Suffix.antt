@@ -1,4 +1,5 @@
--- Public suffixes and registrable domains over a list of rules. The Public Suffix List format, "Algorithm".
+-- Public suffixes and registrable domains over a list of rules. The Public Suffix List format,
+-- "Algorithm".
 use Rattle.std.specs.Prelude.{ℕ, zero, suc, ◌+◌, max, ◌≡◌, Bool, true, false, not, IsTrue, List, [], ◌∷◌, length, filter, if◌then◌else◌}
 use Rattle.std.specs.List.{list_any}
 use Rattle.public_suffix.specs.declared.rule.Mark.{Mark}
@@ -47,22 +48,27 @@ is_exception Plain = false
 is_exception Wildcard = false
 is_exception Exception = true
 
--- the exceptions of a list, or its other rules
-abbrev pub of_kind : Bool → List SuffixRule → List SuffixRule
-of_kind true rules = filter (λ rule. is_exception rule.mark) rules
-of_kind false rules = filter (λ rule. not (is_exception rule.mark)) rules
+-- the exceptions of a list
+abbrev pub exceptions : List SuffixRule → List SuffixRule
+exceptions rules = filter (λ rule. is_exception rule.mark) rules
 
--- how many labels the suffix has by the most labels of a matching exception and of another matching rule: the
--- exception prevails and gives up its first label, and where nothing matches the last label is the suffix
+-- the rules of a list that are no exceptions
+abbrev pub other_rules : List SuffixRule → List SuffixRule
+other_rules rules = filter (λ rule. not (is_exception rule.mark)) rules
+
+-- how many labels the suffix has by the most labels of a matching exception and of another matching
+-- rule: the exception prevails and gives up its first label, and where nothing matches the last
+-- label is the suffix
 abbrev pub suffix_len_by : ℕ → ℕ → ℕ
 suffix_len_by zero other = max other 1
 suffix_len_by (suc fewer) other = fewer
 
 -- how many labels the public suffix of a host has
 abbrev pub suffix_len : List SuffixRule → List (List ℕ) → ℕ
-suffix_len rules host = suffix_len_by (most_labels host (of_kind true rules)) (most_labels host (of_kind false rules))
+suffix_len rules host = suffix_len_by (most_labels host (exceptions rules)) (most_labels host (other_rules rules))
 
--- the registrable domain: the public suffix and one label more, or the host where it has no suffix or no such label
+-- the registrable domain: the public suffix and one label more, or the host where it has no suffix
+-- or no such label
 abbrev pub key_of : List SuffixRule → List ℕ → List ℕ
 key_of rules host = if has_suffix host then dotted (last_labels (suffix_len rules (labels_of host) + 1) (labels_of host)) else host
 

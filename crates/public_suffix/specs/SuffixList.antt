@@ -1,4 +1,5 @@
--- What a suffix list says as a whole. The Public Suffix List format; the forms of a bad line are this jar's own.
+-- What a suffix list says as a whole. The Public Suffix List format; the forms of a bad line are
+-- this jar's own.
 use Rattle.std.specs.Prelude.{ℕ, ◌≡◌, ◌≤◌, ◌<◌, ◌==◌, Bool, true, false, List, length, Option, Some, None, Result, Ok, Err}
 use Rattle.std.specs.List.{slice_split, filter_map, position_from}
 use Rattle.public_suffix.specs.declared.refusal.TheConstants.{MAX_RULES}
@@ -30,7 +31,8 @@ rules_of text = filter_map (λ line. named_rule (reading_of line)) (lines_of tex
 abbrev pub first_bad_line : List ℕ → Option ℕ
 first_bad_line text = position_from (λ line. is_bad (reading_of line)) 1 (lines_of text)
 
--- what reading a list gives: all its rules, or the first bad line, or too many rules where no line is bad
+-- what reading a list gives: all its rules, or the first bad line, or too many rules where no line
+-- is bad
 abbrev pub ReadsList : List ℕ → Result (List SuffixRule) SuffixRefusal → Type 0
 ReadsList text (Ok rules) = (first_bad_line text ≡ None) × (length (rules_of text) ≤ MAX_RULES) × (rules ≡ rules_of text)
 ReadsList text (Err (BadRule line)) = first_bad_line text ≡ Some line

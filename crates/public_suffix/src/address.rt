@@ -3,12 +3,12 @@
 ghost use Rattle.std.specs.Prelude.{◌≡◌};
 ghost use Rattle.std.specs.Char.{is_ascii_digit};
 ghost use Rattle.std.specs.List.{list_all};
-ghost use Rattle.jar_types.specs.Hosts as spec;
+ghost use Rattle.jar_values.specs.Hosts as spec;
 
 /// Whether a host is an IP address: it begins with `[`, or its last label is a decimal number.
 ///
-/// The URL Standard, section 3.5 (host serializing); that any number ends an address is this jar's own rule:
-/// docs/DEFINITIONS.md.
+/// The URL Standard, section 3.5 (host serializing); that any number ends an address is this jar's
+/// own rule: docs/DEFINITIONS.md.
 pub fn is_ip_host(host: &str) -> bool
     ensures { result ≡ spec.is_ip_host host.now }
 {
@@ -19,12 +19,10 @@ pub fn is_ip_host(host: &str) -> bool
 fn last_label(host: &str) -> &str
     ensures { result.now ≡ spec.last_label host.now }
 {
-    let bytes = host.as_bytes();
-    let mut start = bytes.len();
-    'label: while start > 0 && bytes[start - 1] != b'.' {
-        start -= 1;
+    match host.rsplit_once('.') {
+        Some((_, label)) => label,
+        None => host,
     }
-    &host[start..]
 }
 
 /// Whether a label is a decimal number.

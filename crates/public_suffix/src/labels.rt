@@ -1,9 +1,8 @@
 //! The labels of hosts.
 
-ghost use Rattle.std.specs.Prelude.{◌+◌, ℕ, List, false, ◌≡◌, ◌<◌, ◌≤◌, ◌∷◌, [], length, MatchOption};
+ghost use Rattle.std.specs.Prelude.{◌+◌, ◌≡◌, ◌<◌, ◌≤◌, ◌∷◌, [], length, MatchOption};
 ghost use Rattle.std.specs.List.{list_any};
 ghost use Rattle.public_suffix.specs.Labels as spec;
-ghost use Rattle.public_suffix.specs.Rule.{rule_labels};
 ghost use Rattle.public_suffix.specs.Labels.{labels_of, dotted, is_empty};
 
 use crate::address::is_ip_host;
@@ -15,17 +14,6 @@ pub fn split_label(host: &str) -> Option<(&str, &str)>
     ensures shorter { MatchOption result (Unit {0}) (λ x. length x.1.now < length host.now) }
 {
     host.split_once('.')
-}
-
-/// What follows the first label of a host and its dot; nothing where it has one label.
-pub fn after_label(host: &str) -> &str
-    requires { list_any is_empty (labels_of host.now) ≡ false }
-    ensures { (l : List ℕ) × (labels_of host.now ≡ l ∷ rule_labels result.now) }
-{
-    match split_label(host) {
-        Some((_, rest)) => rest,
-        None => "",
-    }
 }
 
 /// How many labels a host has.

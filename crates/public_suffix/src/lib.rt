@@ -2,11 +2,15 @@
 #![tactic(auto)]
 
 mod address;
+mod ending;
+mod found;
 mod labels;
 mod lines;
+mod marks;
 mod reading;
 mod refusal;
 mod rule;
+mod steps;
 mod suffixes;
 mod table;
 

@@ -9,23 +9,20 @@ ghost use Rattle.public_suffix.specs.Rule.{is_blank, reading_of, reading_of_rule
 ghost use Rattle.public_suffix.specs.Seen.{ReadsRule, ReadsLine, ReadsText};
 
 use crate::labels::{count_labels, has_empty_label};
-use crate::rule::{LineRefusal, Mark, Rule};
+use crate::rule::{Mark, Rule, RuleRefusal};
 use idna::{AsciiDenyList, Errors, domain_to_ascii_cow};
-use jar_types::Text;
+use jar_values::Text;
 use std::alloc::Global;
 
 /// The rule that a line names, if it names one.
-pub fn read_line(alloc: Global, line: &str) -> Result<Option<Rule>, LineRefusal>
+pub fn rule_of_line(alloc: Global, line: &str) -> Result<Option<Rule>, RuleRefusal>
     ensures { ReadsLine (reading_of line.now) result }
 {
     let word = first_word(line);
     if word.is_empty() || word.starts_with("//") {
         return Ok(None);
     }
-    match read_rule(alloc, word) {
-        Ok(rule) => Ok(Some(rule)),
-        Err(refusal) => Err(refusal),
-    }
+    Ok(Some(read_rule(alloc, word)?))
 }
 
 /// A line up to its first blank.
@@ -54,21 +51,17 @@ fn is_blank_byte(byte: u8) -> bool
 }
 
 /// The rule that a word names.
-fn read_rule(alloc: Global, word: &str) -> Result<Rule, LineRefusal>
+fn read_rule(alloc: Global, word: &str) -> Result<Rule, RuleRefusal>
     ensures { ReadsRule (reading_of_rule word.now) result }
 {
     if word == "*" {
-        let text = Text::from_string(String::new(alloc));
         return Ok(Rule {
             mark: Mark::Wildcard,
-            text,
+            text: Text::of(alloc, "")?,
         });
     }
     let (mark, rest) = split_mark(word);
-    match rule_text(alloc, rest) {
-        Ok(text) => marked_rule(mark, text),
-        Err(refusal) => Err(refusal),
-    }
+    marked_rule(mark, rule_text(alloc, rest)?)
 }
 
 /// The mark of a rule as it is written, and the text after it.
@@ -76,23 +69,23 @@ fn split_mark(word: &str) -> (Mark, &str)
     ensures mark { result.0 ≡ mark_of word.now }
     ensures rest { result.1.now ≡ drop (mark_len (mark_of word.now)) word.now }
 {
-    if word.starts_with("!") {
-        (Mark::Exception, &word[1..])
-    } else if word.starts_with("*.") {
-        (Mark::Wildcard, &word[2..])
-    } else {
-        (Mark::Plain, word)
+    if let Some(rest) = word.strip_prefix("!") {
+        return (Mark::Exception, rest);
+    }
+    match word.strip_prefix("*.") {
+        Some(rest) => (Mark::Wildcard, rest),
+        None => (Mark::Plain, word),
     }
 }
 
 /// The rule of a mark and a text: an exception has two labels at least.
-fn marked_rule(mark: Mark, text: Text) -> Result<Rule, LineRefusal>
+fn marked_rule(mark: Mark, text: Text) -> Result<Rule, RuleRefusal>
     ensures { ReadsRule (reading_by mark (Some text)) result }
 {
     match mark {
         Mark::Exception => {
             if count_labels(text.as_str()) < 2 {
-                Err(LineRefusal::NoRule)
+                Err(RuleRefusal::NoRule)
             } else {
                 Ok(Rule { mark, text })
             }
@@ -102,19 +95,14 @@ fn marked_rule(mark: Mark, text: Text) -> Result<Rule, LineRefusal>
 }
 
 /// The ASCII form of a rule's text after its mark.
-fn rule_text(alloc: Global, text: &str) -> Result<Text, LineRefusal>
+fn rule_text(alloc: Global, text: &str) -> Result<Text, RuleRefusal>
     ensures { ReadsText (spec.rule_text text.now) result }
 {
-    match ascii_form(alloc, text) {
-        Ok(ascii) => {
-            if is_rule_text(ascii.as_str()) {
-                Ok(Text::from_string(ascii))
-            } else {
-                Err(LineRefusal::NoRule)
-            }
-        }
-        Err(Errors::Invalid) => Err(LineRefusal::NoRule),
-        Err(Errors::OutOfMemory) => Err(LineRefusal::NoMemory),
+    let ascii = ascii_form(alloc, text)?;
+    if is_rule_text(ascii.as_str()) {
+        Ok(Text::from_string(ascii)?)
+    } else {
+        Err(RuleRefusal::NoRule)
     }
 }
 

@@ -3,7 +3,7 @@
 ghost use Rattle.std.specs.Prelude.{◌≡◌};
 ghost use Rattle.public_suffix.specs.declared.refusal.SuffixRefusal.TheVariants.{NoMemory as no_memory};
 
-use jar_types::NoMemory;
+use jar_values::NoMemory;
 use std::alloc::{AllocError, AllocFailed};
 use std::error::Error;
 use std::fmt;

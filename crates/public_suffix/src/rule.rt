@@ -1,10 +1,12 @@
 //! Rules of a suffix list.
 
 ghost use Rattle.std.specs.Prelude.{◌≡◌, IfOk};
-ghost use Rattle.public_suffix.specs.declared.rule.LineRefusal.TheVariants.{NoMemory as no_memory};
+ghost use Rattle.public_suffix.specs.declared.rule.RuleRefusal.TheVariants.{NoMemory as no_memory};
+ghost use Rattle.public_suffix.specs.Refusals.{refusal_of};
 
-use jar_types::{NoMemory, Text};
-use std::alloc::{AllocError, Global};
+use idna::Errors;
+use jar_values::{NoMemory, Text};
+use std::alloc::Global;
 
 /// The mark that a rule begins with.
 #[derive(Clone, Copy, Debug, PartialEq, Eq)]
@@ -19,18 +21,29 @@ pub enum Mark {
 
 /// Why a line gives no rule.
 #[derive(Clone, Copy, Debug, PartialEq, Eq)]
-pub enum LineRefusal {
+pub enum RuleRefusal {
     /// The line is no rule.
     NoRule,
     /// Memory was wanting.
     NoMemory,
 }
 
-impl From<AllocError> for LineRefusal {
-    ghost from_gives = { λ _ e. e ≡ no_memory };
+impl From<NoMemory> for RuleRefusal {
+    ghost from_gives = { λ _ refusal. refusal ≡ no_memory };
 
-    fn from(_error: AllocError) -> LineRefusal {
-        LineRefusal::NoMemory
+    fn from(_error: NoMemory) -> RuleRefusal {
+        RuleRefusal::NoMemory
+    }
+}
+
+impl From<Errors> for RuleRefusal {
+    ghost from_gives = { λ errors refusal. refusal ≡ refusal_of errors };
+
+    fn from(errors: Errors) -> RuleRefusal {
+        match errors {
+            Errors::Invalid => RuleRefusal::NoRule,
+            Errors::OutOfMemory => RuleRefusal::NoMemory,
+        }
     }
 }
 
@@ -51,4 +64,15 @@ impl Rule {
             text: self.text.copy(alloc)?,
         })
     }
+}
+
+/// The same rules again.
+pub fn copy_rules(alloc: Global, rules: &[Rule]) -> Result<Vec<Rule>, NoMemory>
+    ensures { IfOk result (λ copied. copied.items ≡ rules.now) }
+{
+    let mut copied = Vec::new(alloc);
+    for rule in rules {
+        copied.push(rule.copy(alloc)?)?;
+    }
+    Ok(copied)
 }

@@ -1,79 +1,69 @@
-//! Suffix rules in an ordered table.
+//! Suffix rules in a table that is walked from the end of a host.
 
-ghost use Rattle.std.specs.Prelude.{◌≡◌, ◌&&◌, ◌||◌, ℕ, List, false, IfOk, OnOk};
-ghost use Rattle.std.specs.BTreeSet.{contains_text};
-ghost use Rattle.std.specs.Str.{bytes_eq};
-ghost use Rattle.public_suffix.specs.declared.rule.Mark.{Mark};
-ghost use Rattle.public_suffix.specs.Rule.{same_mark};
+ghost use Rattle.std.specs.Prelude.{◌≡◌, ◌+◌, ◌≤◌, List, map, length, false, IfOk};
+ghost use Rattle.std.specs.List.{list_any};
+ghost use Rattle.public_suffix.specs.declared.rule.Rule.{Rule};
+ghost use Rattle.public_suffix.specs.Labels.{labels_of, is_empty};
+ghost use Rattle.public_suffix.specs.Seen.{rule_seen};
+ghost use Rattle.public_suffix.specs.Steps.{AreInOrder};
+ghost use Rattle.public_suffix.specs.Suffix as spec;
 
-use crate::rule::{Mark, Rule};
-use jar_types::NoMemory;
+use crate::ending::{marks_at, narrow};
+use crate::found::Found;
+use crate::rule::{Rule, copy_rules};
+use crate::steps::{byte_step, rule_cmp};
+use jar_values::NoMemory;
 use std::alloc::Global;
-use std::collections::BTreeSet;
 
-/// The texts of the rules of each mark, in order.
+/// Rules in the order of their steps: the bytes of a rule's text from its end, then its mark. So
+/// rules whose texts end alike stand together. Their texts share what those of the list hold.
 #[derive(Drop)]
 pub struct RuleTable {
-    pub plain: BTreeSet<String>,
-    pub wildcards: BTreeSet<String>,
-    pub exceptions: BTreeSet<String>,
+    pub sorted: Vec<Rule>,
 }
 
 impl RuleTable {
-    ghost use Rattle.public_suffix.specs.Tables.{holds, IsTableOf};
+    ghost use Rattle.public_suffix.specs.Tables.{IsTableOf};
 
     /// The table of some rules.
     pub fn of_rules(alloc: Global, rules: &[Rule]) -> Result<RuleTable, NoMemory>
         ensures { IfOk result (λ table. IsTableOf table rules.now) }
     {
-        let mut table = RuleTable::new(alloc);
-        for rule in rules {
-            table.add(alloc, rule)?;
-        }
-        Ok(table)
+        let mut sorted = copy_rules(alloc, rules)?;
+        sorted.sort_unstable_by(rule_cmp);
+        Ok(RuleTable { sorted })
     }
 
-    /// The table without a rule.
-    fn new(alloc: Global) -> RuleTable
-        ensures { (mark : Mark) (text : List ℕ) → holds result mark text ≡ false }
+    /// The same table again.
+    pub fn copy(&self, alloc: Global) -> Result<RuleTable, NoMemory>
+        ensures { IfOk result (λ table. table.sorted.items ≡ self.now.sorted.items) }
     {
-        RuleTable {
-            plain: BTreeSet::new(alloc),
-            wildcards: BTreeSet::new(alloc),
-            exceptions: BTreeSet::new(alloc),
-        }
+        Ok(RuleTable {
+            sorted: copy_rules(alloc, &self.sorted)?,
+        })
     }
 
-    /// Adds a rule.
-    fn add(&mut self, alloc: Global, rule: &Rule) -> Result<(), NoMemory>
-        ensures { OnOk result ((mark : Mark) (text : List ℕ) → holds self.new mark text
-            ≡ ((same_mark rule.now.mark mark && bytes_eq rule.now.text text) || holds self.old mark text)) }
+    /// How many labels the public suffix of a host has, in one walk from the end of the host.
+    pub fn suffix_len(&self, host: &str) -> usize
+        requires ordered { AreInOrder self.now.sorted.items }
+        requires full { list_any is_empty (labels_of host.now) ≡ false }
+        ensures value { (rules : List Rule) → IsTableOf self.now rules
+            → result ≡ spec.suffix_len (map rule_seen rules) (labels_of host.now) }
+        ensures bound { result ≤ length host.now + 1 }
     {
-        let text = rule.text.as_str();
-        match rule.mark {
-            Mark::Plain => add_text(alloc, &mut self.plain, text),
-            Mark::Wildcard => add_text(alloc, &mut self.wildcards, text),
-            Mark::Exception => add_text(alloc, &mut self.exceptions, text),
+        let bytes = host.as_bytes();
+        let mut ending = self.sorted.as_slice();
+        let mut found = Found::none(marks_at(ending, 0));
+        let mut depth = 0;
+        'bytes: while depth < bytes.len() {
+            let byte = bytes[bytes.len() - 1 - depth];
+            let narrowed = narrow(ending, depth, byte_step(byte));
+            if byte == b'.' {
+                found = found.more(marks_at(ending, depth));
+            }
+            ending = narrowed;
+            depth += 1;
         }
+        found.more(marks_at(ending, depth)).suffix_len()
     }
-
-    /// Whether it has a rule of a mark and a text.
-    pub fn has(&self, mark: Mark, text: &str) -> bool
-        ensures { result ≡ holds self.now mark text.now }
-    {
-        match mark {
-            Mark::Plain => self.plain.contains(text),
-            Mark::Wildcard => self.wildcards.contains(text),
-            Mark::Exception => self.exceptions.contains(text),
-        }
-    }
-}
-
-/// Adds a text to a set.
-fn add_text(alloc: Global, texts: &mut BTreeSet<String>, text: &str) -> Result<(), NoMemory>
-    ensures { OnOk result ((q : List ℕ) → contains_text texts.new q
-        ≡ (bytes_eq text.now q || contains_text texts.old q)) }
-{
-    texts.insert(String::from_str(alloc, text)?)?;
-    Ok(())
 }

@@ -1,7 +1,7 @@
 -- How a try to reuse a kept text is decided.
 -- This jar's own rule: docs/DEFINITIONS.md.
 use Rattle.std.specs.Prelude.{◌≡◌, ◌≢◌, ◌<◌, ◌≤◌, ℕ}
-use Rattle.version_cells.specs.Entries.{turns}
+use Rattle.version_cells.specs.Listings.{turns}
 use Rattle.version_cells.specs.Moves.{after_look}
 use Rattle.version_cells.specs.Standing.{PassStanding, pass_with_view}
 use Rattle.renderer_cache.specs.declared.kept.Kept.{Kept}

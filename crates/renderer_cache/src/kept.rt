@@ -1,6 +1,6 @@
 //! The kept answer of one cell.
 
-ghost use Rattle.version_cells.specs.Entries.{IsCell};
+ghost use Rattle.version_cells.specs.Listings.{IsCell};
 
 use jar_types::Text;
 
@@ -9,7 +9,7 @@ use jar_types::Text;
 /// This jar's own rule: docs/DEFINITIONS.md.
 #[derive(Drop)]
 pub struct Kept {
-    /// The cell, of 1 to 4,096.
+    /// The cell, from 1 to `CELLS` of the version words.
     pub cell: u32,
     /// The version at which the text was the answer: how many entries had moved the cell.
     pub version: u64,

@@ -1,11 +1,12 @@
 ghost use Rattle.std.specs.Prelude.{◌≡◌};
 
 use crate::{Kept, Reuse};
-use jar_types::{Moment, Text};
+use jar_types::{Entry, Moment, Own, Text};
 use std::alloc::Global;
 use std::test::Fail;
 use version_cells::{Cells, Made, Pass};
 
+/// The text `a=1` of cell 7, kept at version 0 until 10.
 fn keep(alloc: Global) -> Option<Kept> {
     let Ok(text) = Text::of(alloc, "a=1") else {
         return None;
@@ -18,7 +19,7 @@ fn keep(alloc: Global) -> Option<Kept> {
     })
 }
 
-// 0 for late, 1 for a hit with the kept text, 2 for 0 kept and 1 found, and 3 for anything else.
+/// 0 for late, 1 for a hit with the kept text, 2 for 0 kept and 1 found, and 3 for anything else.
 fn number_of(reuse: Reuse<'_>) -> u8 {
     match reuse {
         Reuse::Late => 0,
@@ -27,6 +28,7 @@ fn number_of(reuse: Reuse<'_>) -> u8 {
     }
 }
 
+/// What a try to reuse gives at a moment, 4 where there is no such moment.
 fn answer_at(kept: &Kept, cells: &Cells, pass: &mut Pass, ms: u64) -> u8
     requires same { pass.old.table ≡ cells.now }
     ensures same { pass.new.table ≡ cells.now }
@@ -37,11 +39,15 @@ fn answer_at(kept: &Kept, cells: &Cells, pass: &mut Pass, ms: u64) -> u8
     }
 }
 
-// A text kept at version 0 until 10: below 10 the look decides, from 10 on it is late without a look.
+// A text kept at version 0 until 10: below 10 the look decides, from 10 on it is late without a
+// look.
 #[test]
 fn a_kept_text_is_reused_until_its_moment_or_a_move(rt: HostRuntime) -> Result<(), Fail> {
     let (Ok(made), Some(kept)) = (Cells::make(rt.alloc(), 0), keep(rt.alloc())) else {
         panic!(rt; "no memory")
+    };
+    let Some(now) = Moment::of(8) else {
+        panic!(rt; "no moment")
     };
     let Made {
         cells,
@@ -56,7 +62,7 @@ fn a_kept_text_is_reused_until_its_moment_or_a_move(rt: HostRuntime) -> Result<(
         "{hit} {late}"
     );
     cells.bump(&mut baton, 7);
-    cells.commit(&mut baton, None, &[7]);
+    cells.commit(&mut baton, None, &[7], &Entry::Jar(Own::Whole(now)));
     let moved = answer_at(&kept, &cells, &mut cutter, 9);
     let late = answer_at(&kept, &cells, &mut cutter, 10);
     assert!(rt;

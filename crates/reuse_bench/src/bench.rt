@@ -5,7 +5,7 @@ ghost use Rattle.reuse_bench.specs.declared.bench.TheConstants.{CELL};
 ghost use Rattle.reuse_bench.specs.Looked.{HasLooked, looks_of};
 
 use crate::task::Task;
-use jar_types::{Moment, NoMemory, Text};
+use jar_types::{Entry, Moment, NoMemory, Own, Text};
 use renderer_cache::{Kept, Reuse};
 use std::alloc::Global;
 use std::sync::atomic::{AtomicU64, Ordering};
@@ -30,8 +30,8 @@ pub struct Bench {
 }
 
 impl Bench {
-    /// The word and the cell, which one entry moved, and the kept text.
-    pub fn make(alloc: Global) -> Result<Bench, NoMemory>
+    /// The word and the cell, which one entry at `now` moved, and the kept text.
+    pub fn make(alloc: Global, now: Moment) -> Result<Bench, NoMemory>
         ensures kept { IfOk result (λ bench. (bench.kept.value.cell ≡ CELL)
             × (bench.kept.value.version ≡ 1) × (bench.kept.value.until ≡ 1)) }
         ensures unlooked { IfOk result (λ bench. bench.pass.view.looks ≡ []) }
@@ -43,7 +43,7 @@ impl Bench {
             passes: _,
         } = Cells::make(alloc, 0)?;
         cells.bump(&mut baton, CELL);
-        cells.commit(&mut baton, None, &[CELL]);
+        cells.commit(&mut baton, None, &[CELL], &Entry::Jar(Own::Whole(now)));
         let kept = Kept {
             cell: CELL,
             version: 1,
@@ -65,7 +65,8 @@ impl Bench {
         self.pass.looks()
     }
 
-    /// Does a task so many times at a moment, and sums up what each round gives: a number or a length.
+    /// Does a task so many times at a moment, and sums up what each round gives: a number or a
+    /// length.
     pub fn sum(&mut self, alloc: Global, task: Task, now: Moment, rounds: u64) -> u64
         requires early { now < self.old.kept.value.until }
         ensures looked { HasLooked self.old.pass self.new.pass (looks_of task rounds) }
@@ -81,6 +82,7 @@ impl Bench {
     }
 }
 
+/// The sum of loads of the word.
 fn loads(word: &AtomicU64, rounds: u64) -> u64 {
     let mut sum = 0u64;
     for _ in 0..rounds {
@@ -89,6 +91,7 @@ fn loads(word: &AtomicU64, rounds: u64) -> u64 {
     sum
 }
 
+/// The sum of looks at the cell.
 fn looks(cells: &Cells, pass: &mut Pass, rounds: u64) -> u64
     requires same { pass.old.table ≡ cells.now }
     ensures same { pass.new.table ≡ cells.now }
@@ -101,7 +104,7 @@ fn looks(cells: &Cells, pass: &mut Pass, rounds: u64) -> u64
     sum
 }
 
-// The length of a copy of a text, 0 where there was no memory for it.
+/// The length of a copy of a text, 0 where there was no memory for it.
 fn copied_len(alloc: Global, text: &str) -> u64 {
     match Text::of(alloc, text) {
         Ok(copy) => copy.as_str().len() as u64,
@@ -109,6 +112,7 @@ fn copied_len(alloc: Global, text: &str) -> u64 {
     }
 }
 
+/// The lengths of copies of the text, one for each load of the word.
 fn load_copies(alloc: Global, word: &AtomicU64, text: &Text, rounds: u64) -> u64 {
     let mut sum = 0u64;
     for _ in 0..rounds {
@@ -119,6 +123,7 @@ fn load_copies(alloc: Global, word: &AtomicU64, text: &Text, rounds: u64) -> u64
     sum
 }
 
+/// The lengths of copies of the kept text, one for each reuse that is a hit.
 fn reuse_copies(
     alloc: Global,
     kept: &Kept,

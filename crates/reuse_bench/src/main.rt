@@ -30,7 +30,10 @@ fn main(rt: HostRuntime) -> ExitCode {
     let Some((task, rounds)) = asked else {
         return ExitCode::from(2);
     };
-    let (Ok(mut bench), Some(now)) = (Bench::make(rt.alloc()), Moment::of(0)) else {
+    let Some(now) = Moment::of(0) else {
+        return ExitCode::from(7);
+    };
+    let Ok(mut bench) = Bench::make(rt.alloc(), now) else {
         return ExitCode::from(7);
     };
     let sum = bench.sum(rt.alloc(), task, now, rounds);

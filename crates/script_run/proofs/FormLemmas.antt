@@ -1,14 +1,14 @@
 -- Lemmas on the form of scripts.
 use Rattle.std.proofs.Common.{◌≡◌, ◌≢◌, ◌<◌, ◌≤◌, Err, nat_le, if◌then◌else◌, ◌++◌, zero, take, get_or, arith, ℕ, suc, String, Global, List, [], ◌∷◌, Option, Some, None, length, refl, ap, ◌∙◌, sym}
 use Rattle.std.proofs.lemmas.Bool.Decides.{nat_tests}
-use Rattle.script_run.specs.declared.step.TheConstants.{MOST_STEPS}
+use Rattle.script_run.specs.declared.text.step.TheConstants.{MOST_STEPS}
 use Rattle.serde_json.specs.Data.{Data, null, boolean, number, string, array, object, Members}
 use Rattle.serde_json.specs.Find.{as_object}
 use Rattle.serde_json.specs.View.{members_of, items_of}
-use Rattle.script_run.specs.declared.draft.DraftStep.{DraftStep}
-use Rattle.script_run.specs.declared.form.FormRefusal.{FormRefusal}
-use Rattle.script_run.specs.declared.form.FormRefusal.TheVariants.{NotBuilt, NoMemory}
-use Rattle.script_run.specs.Form.{member_count, size, item_count, with_first, step_of, steps_of, steps_within, sole_item, Reads}
+use Rattle.script_run.specs.declared.text.draft.DraftStep.{DraftStep}
+use Rattle.script_run.specs.declared.text.form.FormRefusal.{FormRefusal}
+use Rattle.script_run.specs.declared.text.form.FormRefusal.TheVariants.{NotBuilt, NoMemory}
+use Rattle.script_run.specs.Text.Form.{member_count, size, item_count, with_first, step_of, steps_of, steps_within, sole_item, Reads}
 
 pub member_count-members_of : (ms : List (String Global × Data)) → member_count (members_of ms) ≡ length ms
 member_count-members_of [] = refl

@@ -1,39 +1,42 @@
 -- Why the journal of a script is legal, and why its items name the calls.
-use Rattle.std.proofs.Common.{◌≡◌, ◌<◌, ◌≤◌, ◌+◌, ℕ, List, [], ◌∷◌, ◌++◌, true, false, length, refl, ap, ◌∙◌, arith, Result, Ok, Err}
-use Rattle.std.specs.Prelude.{nat_lt, bytes_eq, drop, if◌then◌else◌}
+use Rattle.std.proofs.Common.{◌≡◌, ◌<◌, ◌≤◌, ◌+◌, ℕ, suc, zero, List, [], ◌∷◌, ◌++◌, Bool, true, false, cond, Option, None, Some, length, refl, ap, sym, ◌∙◌, arith, subst, length-append}
+use Rattle.std.specs.Prelude.{nat_lt, bytes_eq, drop, slice_get, ◌&&◌, if◌then◌else◌}
+use Rattle.std.specs.List.Sorted.{IsStrictlySortedBy}
 use Rattle.std.proofs.lemmas.Bool.Decides.{nat_tests}
 use Rattle.std.proofs.lemmas.Slice.Eq.{bytes_eq-Decides}
+use Rattle.jar_values.specs.Hosts.{undotted}
 use Rattle.jar_types.specs.declared.op.Op.{Op}
+use Rattle.jar_types.specs.declared.op.Op.TheVariants.{Set as SetOp, Get as GetOp}
 use Rattle.jar_types.specs.declared.entry.Own.TheVariants.{Whole}
 use Rattle.jar_types.specs.declared.entry.Event.{Event}
 use Rattle.jar_types.specs.declared.entry.Event.TheVariants.{Call as CallEvent, Jar as JarEvent}
-use Rattle.jar_types.specs.Hosts.{undotted}
-use Rattle.jar_types.specs.States.{JarState, opening}
-use Rattle.jar_types.specs.Steps.{after}
-use Rattle.jar_types.specs.Journals.{events, run, is_well_keyed, stands, all_stand}
-use Rattle.jar_types.proofs.JournalLemmas.{event_back}
+use Rattle.jar_types.specs.declared.entry.Entry.{Entry}
+use Rattle.jar_types.specs.declared.entry.Entry.TheVariants.{Call, Jar}
+use Rattle.jar_types.specs.Ids.{text_cmp}
+use Rattle.jar_types.specs.States.{JarState, opening, is_loaded}
+use Rattle.jar_types.specs.Steps.{after, entry_of, own_may_stand, op_step}
+use Rattle.jar_types.specs.Journals.{IsLegal, is_well_keyed, op_key, stands, state_of}
+use Rattle.jar_types.proofs.JournalLemmas.{state_push, legal_push}
 use Rattle.public_suffix.specs.Rule.{SuffixRule}
 use Rattle.public_suffix.specs.Suffix.{key_of}
-use Rattle.set_cookie_line.specs.declared.line.Line.{Line}
-use Rattle.set_cookie_line.specs.declared.line.LineRefusal.{LineRefusal}
-use Rattle.set_cookie_line.specs.Line.{read}
 use Rattle.site_match.specs.declared.place.Place.{Place}
 use Rattle.site_match.specs.Places.{host_of, begins_with_dot}
-use Rattle.script_run.specs.declared.draft.DraftStep.{DraftStep}
-use Rattle.script_run.specs.declared.step.Step.{Step}
-use Rattle.script_run.specs.declared.step.What.{What}
-use Rattle.script_run.specs.declared.step.What.TheVariants.{Set, Get}
+use Rattle.script_run.specs.declared.text.draft.DraftStep.{DraftStep}
+use Rattle.script_run.specs.declared.text.draft.DraftWhat.{DraftWhat}
+use Rattle.script_run.specs.declared.text.draft.DraftWhat.TheVariants as draft_what
+use Rattle.script_run.specs.declared.text.set_line.SetLine.{SetLine}
+use Rattle.script_run.specs.declared.text.set_line.SetLine.TheVariants.{Bare, Refused as RefusedLine}
+use Rattle.script_run.specs.declared.text.step.Step.{Step}
+use Rattle.script_run.specs.declared.text.step.What.{What}
+use Rattle.script_run.specs.declared.text.step.What.TheVariants.{Set, Get}
 use Rattle.script_run.specs.declared.ask.Ask.{Ask}
 use Rattle.script_run.specs.declared.ask.Ask.TheVariants as ask
-use Rattle.script_run.specs.Drafts.{IsPlace, StepsFrom}
+use Rattle.script_run.specs.declared.report.item.Item.{Item}
+use Rattle.script_run.specs.declared.report.item.Item.TheVariants.{At, Refused}
+use Rattle.script_run.specs.Text.Drafts.{IsPlace, StepsFrom, what_at}
 use Rattle.script_run.specs.Ask.{ask_of, ask_at, ask_of_line}
-use Rattle.script_run.specs.Serial.{call_events, step_events, run_start, serial_events, item_of, next_place, step_items}
+use Rattle.script_run.specs.Runs.{Run, begin, run_start, whole_event, happened, called, asked, tried_step, tried, loaded, round, rounds, Ends}
 use Rattle.script_run.specs.Legal.{rules_of, SerialJournalsAreLegal, call_places, named_places, ItemsNameTheCalls}
-
--- a run tells its events
-events-run : (s : JarState) (vs : List Event) → events (run s vs) ≡ vs
-events-run s [] = refl
-events-run s (v ∷ vs) = λ k. event_back s v k ∷ events-run (after s v) vs k
 
 is_below : (n m : ℕ) → n < m → nat_lt n m ≡ true
 is_below n m h = grind (arith, nat_tests)
@@ -50,94 +53,177 @@ place_keyed suffixes url place (parts, parsed, is) =
     let key = key_of suffixes (host_of parts) in
     rw (is.key, is.host, undotted_host (host_of parts) is.no_dot) ((bytes_eq-Decides key key).1 refl)
 
--- each of these steps is at such a place
-abbrev AreKeyed : List SuffixRule → List Step → Type 0
-AreKeyed suffixes [] = Unit {0}
-AreKeyed suffixes (step ∷ steps) = IsKeyed suffixes step.place × AreKeyed suffixes steps
-
-steps_keyed : (suffixes : List SuffixRule) (drafts : List DraftStep) (steps : List Step) → StepsFrom suffixes drafts steps → AreKeyed suffixes steps
-steps_keyed suffixes [] [] h = tt
-steps_keyed suffixes [] (step ∷ steps) h = absurd h
-steps_keyed suffixes (draft ∷ drafts) [] h = absurd h
-steps_keyed suffixes (draft ∷ drafts) (step ∷ steps) h =
-    (place_keyed suffixes draft.url step.place h.0.place, steps_keyed suffixes drafts steps h.1)
-
 -- what is asked is well keyed
 abbrev AskKeyed : List SuffixRule → ℕ → Ask → Type 0
 AskKeyed suffixes limit (ask.Op op) = is_well_keyed (rules_of suffixes limit) op ≡ true
 AskKeyed suffixes limit (ask.Refused name) = Unit {0}
 
-set_keyed : (suffixes : List SuffixRule) (limit : ℕ) (place : Place) (now : ℕ) (r : Result Line LineRefusal) → IsKeyed suffixes place → AskKeyed suffixes limit (ask_of_line place now r)
-set_keyed suffixes limit place now (Ok line) h = h
-set_keyed suffixes limit place now (Err refusal) h = tt
+line_keyed : (suffixes : List SuffixRule) (limit : ℕ) (place : Place) (now : ℕ) (line : SetLine) → IsKeyed suffixes place → AskKeyed suffixes limit (ask_of_line place now line)
+line_keyed suffixes limit place now (Bare name value) h = h
+line_keyed suffixes limit place now (RefusedLine name) h = tt
 
-what_keyed : (suffixes : List SuffixRule) (limit : ℕ) (what : What) (place : Place) (now : ℕ) → IsKeyed suffixes place → AskKeyed suffixes limit (ask_at what place now)
-what_keyed suffixes limit (Set line) place now h = set_keyed suffixes limit place now (read line) h
-what_keyed suffixes limit Get place now h = refl
+what_keyed : (suffixes : List SuffixRule) (limit now : ℕ) (what : DraftWhat) (place : Place) → IsKeyed suffixes place → AskKeyed suffixes limit (ask_at now (what_at what place))
+what_keyed suffixes limit now (draft_what.Set line) place h = line_keyed suffixes limit place now line h
+what_keyed suffixes limit now draft_what.Get place h = refl
 
--- a caller may make a well keyed entry where fewer than the limit stand
-call_stands : (suffixes : List SuffixRule) (limit : ℕ) (s : JarState) (now : ℕ) (op : Op) → s.calls < limit
+-- what each of these steps asks is well keyed
+pub steps_keyed : (suffixes : List SuffixRule) (limit : ℕ) (drafts : List DraftStep) (steps : List Step) → StepsFrom suffixes drafts steps
+    → (i : ℕ) (step : Step) → slice_get steps i ≡ Some step → (i < length steps) × AskKeyed suffixes limit (ask_of step)
+steps_keyed suffixes limit [] [] h i step e = absurd cc
+steps_keyed suffixes limit [] (s ∷ ss) h i step e = absurd h
+steps_keyed suffixes limit (d ∷ ds) [] h i step e = absurd h
+steps_keyed suffixes limit (d ∷ ds) (s ∷ ss) h zero step e =
+    let same : s ≡ step = cc in
+    let keyed = what_keyed suffixes limit s.now d.what h.0.place (place_keyed suffixes d.url h.0.place h.0.url) in
+    let asks : AskKeyed suffixes limit (ask_of s) = subst (λ (w : What). AskKeyed suffixes limit (ask_at s.now w)) (sym h.0.what) keyed in
+    (omega arith, subst (λ (x : Step). AskKeyed suffixes limit (ask_of x)) same asks)
+steps_keyed suffixes limit (d ∷ ds) (s ∷ ss) h (suc i) step e =
+    let rest = steps_keyed suffixes limit ds ss h.1 i step e in
+    (omega (arith, rest.0), rest.1)
+
+-- an op leaves the keys and counts nothing
+op_unloaded : (s : JarState) (caller now : ℕ) (op : Op) → (op_step s caller now op).state.unloaded ≡ s.unloaded
+op_unloaded s caller now (SetOp cookie script secure) = refl
+op_unloaded s caller now (GetOp request) = refl
+
+op_calls : (s : JarState) (caller now : ℕ) (op : Op) → (op_step s caller now op).state.calls ≡ s.calls
+op_calls s caller now (SetOp cookie script secure) = refl
+op_calls s caller now (GetOp request) = refl
+
+-- the run so far has a legal journal, which leads to its state
+record IsSound (suffixes : List SuffixRule) (limit : ℕ) (r : Run) : Type 0 where
+  state : state_of [] r.journal ≡ r.state
+  legal : IsLegal (rules_of suffixes limit) r.journal
+  calls : r.state.calls ≤ length r.items
+  unloaded : r.state.unloaded ≡ []
+
+begin_sound : (suffixes : List SuffixRule) (limit : ℕ) → IsSound suffixes limit begin
+unfolding IsStrictlySortedBy state_of
+begin_sound suffixes limit = record {
+  state = refl;
+  legal = record { hosts = tt; replies = refl; standing = refl };
+  calls = omega arith;
+  unloaded = refl;
+}
+
+-- the journal with an event that may come
+more_legal : (suffixes : List SuffixRule) (limit : ℕ) (r : Run) (v : Event) → IsSound suffixes limit r
+    → stands (rules_of suffixes limit) r.state v ≡ true → IsLegal (rules_of suffixes limit) (happened r v).journal
+more_legal suffixes limit r v sound may =
+    let rules = rules_of suffixes limit in
+    let may' : stands rules (state_of [] r.journal) v ≡ true = ap (λ s. stands rules s v) sound.state ∙ may in
+    subst (λ (s : JarState). IsLegal rules (r.journal ++ entry_of s v ∷ [])) sound.state (legal_push rules r.journal v sound.legal may')
+
+more_state : (suffixes : List SuffixRule) (limit : ℕ) (r : Run) (v : Event) → IsSound suffixes limit r
+    → state_of [] (happened r v).journal ≡ (happened r v).state
+more_state suffixes limit r v sound =
+    subst (λ (s : JarState). state_of [] (r.journal ++ entry_of s v ∷ []) ≡ after s v) sound.state (state_push [] r.journal v)
+
+call_stands : (suffixes : List SuffixRule) (limit : ℕ) (s : JarState) (now : ℕ) (op : Op) → s.calls < limit → s.unloaded ≡ []
     → is_well_keyed (rules_of suffixes limit) op ≡ true → stands (rules_of suffixes limit) s (CallEvent 0 now op) ≡ true
-call_stands suffixes limit s now op h keyed = rw (is_below s.calls limit h, keyed) refl
+call_stands suffixes limit s now op few none keyed = rw (is_below s.calls limit few, keyed, none) refl
 
--- what is asked makes one entry at most
-ask_stands : (suffixes : List SuffixRule) (limit : ℕ) (s : JarState) (now : ℕ) (r : Ask) (rest : List Event)
-    → s.calls < limit → AskKeyed suffixes limit r
-    → ((t : JarState) → t.calls ≤ s.calls + 1 → all_stand (rules_of suffixes limit) t rest ≡ true)
-    → all_stand (rules_of suffixes limit) s (call_events now r ++ rest) ≡ true
-ask_stands suffixes limit s now (ask.Op op) rest h keyed others =
-    rw (call_stands suffixes limit s now op h keyed) (others (after s (CallEvent 0 now op)) (omega arith))
-ask_stands suffixes limit s now (ask.Refused name) rest h keyed others = others s (omega arith)
+asked_sound : (suffixes : List SuffixRule) (limit : ℕ) (r : Run) (now : ℕ) (a : Ask) → IsSound suffixes limit r
+    → length r.items < limit → AskKeyed suffixes limit a → IsSound suffixes limit (asked r now a)
+asked_sound suffixes limit r now (ask.Op op) sound few keyed =
+    let v = CallEvent 0 now op in
+    let may = call_stands suffixes limit r.state now op (omega (arith, sound.calls)) sound.unloaded keyed in record {
+      state = more_state suffixes limit r v sound;
+      legal = more_legal suffixes limit r v sound may;
+      calls = omega (arith, sound.calls, op_calls r.state 0 now op, length-append r.items (At (length (happened r v).journal) ∷ []));
+      unloaded = op_unloaded r.state 0 now op ∙ sound.unloaded;
+    }
+asked_sound suffixes limit r now (ask.Refused name) sound few keyed = record {
+  state = sound.state;
+  legal = sound.legal;
+  calls = omega (arith, sound.calls, length-append r.items (Refused name ∷ []));
+  unloaded = sound.unloaded;
+}
 
-steps_stand : (suffixes : List SuffixRule) (limit : ℕ) (steps : List Step) (s : JarState) → AreKeyed suffixes steps
-    → s.calls + length steps ≤ limit → all_stand (rules_of suffixes limit) s (step_events steps) ≡ true
-steps_stand suffixes limit [] s keyed h = refl
-steps_stand suffixes limit (step ∷ steps) s keyed h =
-    ask_stands suffixes limit s step.now (ask_of step) (step_events steps) (omega arith)
-    (what_keyed suffixes limit step.what step.place step.now keyed.0)
-    (λ t few. steps_stand suffixes limit steps t keyed.1 (omega arith))
+step_sound : (suffixes : List SuffixRule) (limit : ℕ) (r : Run) (o : Option Step) → IsSound suffixes limit r
+    → ((step : Step) → o ≡ Some step → (length r.items < limit) × AskKeyed suffixes limit (ask_of step)) → IsSound suffixes limit (tried_step r o)
+step_sound suffixes limit r None sound h = sound
+step_sound suffixes limit r (Some step) sound h =
+    let may = h step refl in
+    asked_sound suffixes limit r step.now (ask_of step) sound may.0 may.1
 
--- the jar becomes whole behind the first step
-first_stands : (suffixes : List SuffixRule) (limit : ℕ) (now : ℕ) (r : Ask) (steps : List Step)
-    → AskKeyed suffixes limit r → AreKeyed suffixes steps → 1 + length steps ≤ limit
-    → all_stand (rules_of suffixes limit) opening (call_events now r ++ (JarEvent (Whole run_start) ∷ step_events steps)) ≡ true
-first_stands suffixes limit now (ask.Op op) steps first keyed h =
-    rw (call_stands suffixes limit opening now op (omega arith) first)
-    (steps_stand suffixes limit steps (after (after opening (CallEvent 0 now op)) (JarEvent (Whole run_start))) keyed (omega arith))
-first_stands suffixes limit now (ask.Refused name) steps first keyed h =
-    steps_stand suffixes limit steps (after opening (JarEvent (Whole run_start))) keyed (omega arith)
-
-serial_stands : (suffixes : List SuffixRule) (limit : ℕ) (steps : List Step) → AreKeyed suffixes steps → length steps ≤ limit
-    → all_stand (rules_of suffixes limit) opening (serial_events steps) ≡ true
-serial_stands suffixes limit [] keyed h = refl
-serial_stands suffixes limit (step ∷ steps) keyed h =
-    first_stands suffixes limit step.now (ask_of step) steps (what_keyed suffixes limit step.what step.place step.now keyed.0) keyed.1 (omega arith)
-
-pub serial_legal : SerialJournalsAreLegal
-serial_legal suffixes drafts steps limit from h =
-    let told = events-run opening (serial_events steps) in record {
-      replies = ap (run opening) told;
-      standing = ap (all_stand (rules_of suffixes limit) opening) told
-          ∙ serial_stands suffixes limit steps (steps_keyed suffixes drafts steps from) h;
+whole_sound : (suffixes : List SuffixRule) (limit : ℕ) (r : Run) (b : Bool) → own_may_stand r.state whole_event ≡ b → IsSound suffixes limit r
+    → IsSound suffixes limit (cond b (happened r (JarEvent whole_event)) r)
+whole_sound suffixes limit r false e sound = sound
+whole_sound suffixes limit r true e sound =
+    let v = JarEvent whole_event in record {
+      state = more_state suffixes limit r v sound;
+      legal = more_legal suffixes limit r v sound (rw e refl);
+      calls = sound.calls;
+      unloaded = sound.unloaded;
     }
 
--- the item of what is asked names the entry that it makes, where the later items name theirs
-ask_named : (p : ℕ) (s : JarState) (now : ℕ) (r : Ask) (steps : List Step)
-    → ((q : ℕ) (t : JarState) → named_places (step_items q steps) ≡ call_places q (run t (step_events steps)))
-    → named_places (item_of p r ∷ step_items (next_place p r) steps) ≡ call_places p (run s (call_events now r ++ step_events steps))
-ask_named p s now (ask.Op op) steps others = ap (λ ps. p ∷ ps) (others (p + 1) (after s (CallEvent 0 now op)))
-ask_named p s now (ask.Refused name) steps others = others p s
+rounds_sound : (suffixes : List SuffixRule) (limit : ℕ) (drafts : List DraftStep) (steps : List Step) (n : ℕ) → StepsFrom suffixes drafts steps
+    → length steps ≤ limit → IsSound suffixes limit (rounds steps n)
+rounds_sound suffixes limit drafts steps zero from few = begin_sound suffixes limit
+rounds_sound suffixes limit drafts steps (suc n) from few =
+    let r = rounds steps n in
+    let t = tried steps r in
+    let sound = step_sound suffixes limit r (slice_get steps (length r.items)) (rounds_sound suffixes limit drafts steps n from few)
+    (λ step e. let may = steps_keyed suffixes limit drafts steps from (length r.items) step e in (omega (arith, may.0, few), may.1)) in
+    whole_sound suffixes limit t (own_may_stand t.state whole_event) refl sound
 
-steps_named : (steps : List Step) (p : ℕ) (s : JarState) → named_places (step_items p steps) ≡ call_places p (run s (step_events steps))
-steps_named [] p s = refl
-steps_named (step ∷ steps) p s = ask_named p s step.now (ask_of step) steps (λ q t. steps_named steps q t)
+pub serial_legal : SerialJournalsAreLegal
+serial_legal draft script run limit from ends few =
+    let sound = rounds_sound script.suffixes limit draft.steps script.steps ends.count from.steps few in
+    subst (λ (r : Run). IsLegal (rules_of script.suffixes limit) r.journal) (sym ends.is) sound.legal
 
-first_named : (now : ℕ) (r : Ask) (steps : List Step)
-    → named_places (item_of 1 r ∷ step_items (next_place 1 r + 1) steps)
-    ≡ call_places 1 (run opening (call_events now r ++ (JarEvent (Whole run_start) ∷ step_events steps)))
-first_named now (ask.Op op) steps = ap (λ ps. 1 ∷ ps) (steps_named steps 3 (after (after opening (CallEvent 0 now op)) (JarEvent (Whole run_start))))
-first_named now (ask.Refused name) steps = steps_named steps 2 (after opening (JarEvent (Whole run_start)))
+-- one more item and one more entry
+named-push : (items : List Item) (place : ℕ) → named_places (items ++ At place ∷ []) ≡ named_places items ++ place ∷ []
+named-push [] place = refl
+named-push (At p ∷ items) place = ap (λ ps. p ∷ ps) (named-push items place)
+named-push (Refused name ∷ items) place = named-push items place
+
+refused-push : (items : List Item) (item : Item) → named_places (item ∷ []) ≡ [] → named_places (items ++ item ∷ []) ≡ named_places items
+refused-push [] item h = h
+refused-push (At p ∷ items) item h = ap (λ ps. p ∷ ps) (refused-push items item h)
+refused-push (Refused name ∷ items) item h = refused-push items item h
+
+call-push : (p : ℕ) (journal : List Entry) (s : JarState) (now : ℕ) (op : Op)
+    → call_places p (journal ++ entry_of s (CallEvent 0 now op) ∷ []) ≡ call_places p journal ++ (p + length journal) ∷ []
+call-push p [] s now op = ap (λ n. n ∷ []) (omega arith)
+call-push p (Call caller at asks reply ∷ es) s now op =
+    ap (λ ps. p ∷ ps) (call-push (p + 1) es s now op ∙ ap (λ n. call_places (p + 1) es ++ n ∷ []) (omega arith))
+call-push p (Jar own ∷ es) s now op = call-push (p + 1) es s now op ∙ ap (λ n. call_places (p + 1) es ++ n ∷ []) (omega arith)
+
+own-push : (p : ℕ) (journal : List Entry) (s : JarState)
+    → call_places p (journal ++ entry_of s (JarEvent whole_event) ∷ []) ≡ call_places p journal
+own-push p [] s = refl
+own-push p (Call caller at asks reply ∷ es) s = ap (λ ps. p ∷ ps) (own-push (p + 1) es s)
+own-push p (Jar own ∷ es) s = own-push (p + 1) es s
+
+-- the items name the calls so far
+abbrev Named : Run → Type 0
+Named r = named_places r.items ≡ call_places 1 r.journal
+
+asked_named : (r : Run) (now : ℕ) (a : Ask) → Named r → Named (asked r now a)
+asked_named r now (ask.Op op) named =
+    let v = CallEvent 0 now op in
+    let h = happened r v in
+    let place : length h.journal ≡ 1 + length r.journal = length-append r.journal (entry_of r.state v ∷ []) ∙ omega arith in
+    named-push r.items (length h.journal)
+    ∙ ((λ k. named k ++ place k ∷ []) ∙ sym (call-push 1 r.journal r.state now op))
+asked_named r now (ask.Refused name) named = refused-push r.items (Refused name) refl ∙ named
+
+step_named : (r : Run) (o : Option Step) → Named r → Named (tried_step r o)
+step_named r None named = named
+step_named r (Some step) named = asked_named r step.now (ask_of step) named
+
+whole_named : (r : Run) (b : Bool) → Named r → Named (cond b (happened r (JarEvent whole_event)) r)
+whole_named r false named = named
+whole_named r true named = named ∙ sym (own-push 1 r.journal r.state)
+
+rounds_named : (steps : List Step) (n : ℕ) → Named (rounds steps n)
+rounds_named steps zero = refl
+rounds_named steps (suc n) =
+    let r = rounds steps n in
+    let t = tried steps r in
+    whole_named t (own_may_stand t.state whole_event) (step_named r (slice_get steps (length r.items)) (rounds_named steps n))
 
 pub calls_named : ItemsNameTheCalls
-calls_named [] = refl
-calls_named (step ∷ steps) = first_named step.now (ask_of step) steps
+calls_named steps run ends = subst Named (sym ends.is) (rounds_named steps ends.count)

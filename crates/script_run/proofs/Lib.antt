@@ -1,8 +1,7 @@
-pub mod Floats
 pub mod FormLemmas
 pub mod PlacesLemmas
-pub mod InputLemmas
+pub mod ScriptLemmas
 pub mod ReportLemmas
-pub mod AskLemmas
-pub mod SerialLemmas
+pub mod RunLemmas
 pub mod LegalLemmas
+mod StandardFacts

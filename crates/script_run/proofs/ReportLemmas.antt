@@ -1,50 +1,39 @@
--- How the text of a report is put together.
-use Rattle.std.proofs.Common.{◌≡◌, ℕ, List, [], ◌∷◌, ◌++◌, false, map, refl, ◌∙◌, append_assoc}
-use Rattle.std.specs.Prelude.{codes}
-use Rattle.json.specs.Print.{quoted}
-use Rattle.serde_json.specs.Data.{array}
+-- How the tokens of a report follow one another, and what is printed for them.
+use Rattle.std.proofs.Common.{◌≡◌, ◌∙◌, ap, ap₂, subst, map, ℕ, List, [], ◌∷◌, ◌++◌, Ok, append_assoc}
+use Rattle.json.specs.Token.{Token, key}
+use Rattle.json.specs.Print.{print}
+use Rattle.json.specs.Written.{Written, Writes}
+use Rattle.serde_json.specs.Data.{Data, string, array}
 use Rattle.serde_json.specs.View.{items_of}
-use Rattle.serde_json.specs.Written.{compact_text, items_text}
-use Rattle.serde_json.proofs.OnLiterals.{serde_json_on_literals}
-use Rattle.jar_types.specs.declared.entry.Entry.{Entry}
-use Rattle.script_run.specs.declared.item.Item.{Item}
-use Rattle.script_run.specs.Reports.{entry_data, item_data, report_text}
+use Rattle.serde_json.specs.Written.{compact_text}
+use Rattle.serde_json.proofs.Texts.{print-outline}
+use Rattle.script_run.specs.ReportTokens.{data_tokens, Extends}
 
-quoted_actors : quoted (codes "actors") ≡ codes "\"actors\""
-unfolding serde_json_on_literals
-quoted_actors = refl
+-- one token
+pub token : {E : Type 0} {old new : Written} {t : Token} {u : Unit {0}} → Writes {E = E} (Ok u) old new t → Extends old new (t ∷ [])
+token w = record { before = w.room.0; behind = w.ok }
 
-quoted_hosts : quoted (codes "hosts") ≡ codes "\"hosts\""
-unfolding serde_json_on_literals
-quoted_hosts = refl
+-- some tokens, and then others
+pub and_then : {old middle new : Written} {first others : List Token} → Extends old middle first → Extends middle new others
+    → Extends old new (first ++ others)
+and_then {old} {middle} {new} {first} {others} p q =
+    record {
+      before = q.before ∙ p.before;
+      behind = q.behind ∙ (ap (λ ts. ts ++ others) p.behind ∙ append_assoc old.tokens first others);
+    }
 
-quoted_journal : quoted (codes "journal") ≡ codes "\"journal\""
-unfolding serde_json_on_literals
-quoted_journal = refl
+-- a word that is said otherwise
+pub named : {old new : Written} {name word said : List ℕ} → Extends old new (key name ∷ data_tokens (string word)) → word ≡ said
+    → Extends old new (key name ∷ data_tokens (string said))
+named {old} {new} {name} e same = subst (λ w. Extends old new (key name ∷ data_tokens (string w))) same e
 
--- the text, with `a` for that of the items, `e` for that of the entries, and the quoted names of the three members
-abbrev whole_text : List ℕ → List ℕ → List ℕ → List ℕ → List ℕ → List ℕ
-whole_text qa qh qj a e =
-    let journal = qj ++ (58 ∷ ((91 ∷ e) ++ (125 ∷ []))) in
-    let hosts = qh ++ (58 ∷ (91 ∷ (93 ∷ (44 ∷ journal)))) in
-    let actors = qa ++ (58 ∷ ((91 ∷ (a ++ (93 ∷ []))) ++ (44 ∷ hosts))) in
-    (123 ∷ actors) ++ (10 ∷ [])
+-- a list that is said otherwise
+pub listed : {T : Type 0} (data_of : T → Data) {old new : Written} {list said : List T}
+    → Extends old new (data_tokens (array (items_of (map data_of list)))) → list ≡ said → Extends old new (data_tokens (array (items_of (map data_of said))))
+listed data_of {old} {new} e same = subst (λ xs. Extends old new (data_tokens (array (items_of (map data_of xs))))) same e
 
-text_parts : (a e : List ℕ)
-    → whole_text (codes "\"actors\"") (codes "\"hosts\"") (codes "\"journal\"") a e
-    ≡ (((codes "{\"actors\":[" ++ a) ++ codes "],\"hosts\":[],\"journal\":[") ++ e) ++ codes "}\n"
-text_parts a e = simp append_assoc
-
--- the parts of a report, one after another
-pub report_parts : (items : List Item) (journal : List Entry)
-    → report_text items journal
-    ≡ (((codes "{\"actors\":[" ++ compact_text (array (items_of (map item_data items)))) ++ codes "],\"hosts\":[],\"journal\":[") ++ items_text false (items_of (map entry_data journal))) ++ codes "}\n"
-report_parts items journal =
-    let a = compact_text (array (items_of (map item_data items))) in
-    let e = items_text false (items_of (map entry_data journal)) in
-    (λ k. whole_text (quoted_actors k) (quoted_hosts k) (quoted_journal k) a e) ∙ text_parts a e
-
--- five parts that were written one after another
-pub written_parts : {o₁ o₂ o₃ o₄ o₅ : List ℕ} (head a middle e tail : List ℕ) → o₁ ≡ head → o₂ ≡ o₁ ++ a → o₃ ≡ o₂ ++ middle → o₄ ≡ o₃ ++ e
-    → o₅ ≡ o₄ ++ tail → o₅ ≡ (((head ++ a) ++ middle) ++ e) ++ tail
-written_parts head a middle e tail p q r s t = cc
+-- what is printed where a value was written alone
+pub printed : (d : Data) {old new : Written} → Extends old new (data_tokens d) → old.before ≡ [] → old.tokens ≡ []
+    → new.before ++ print new.tokens ≡ compact_text d
+printed d e nothing fresh =
+    ap₂ (λ bytes ts. bytes ++ print ts) (e.before ∙ nothing) (e.behind ∙ ap (λ ts. ts ++ data_tokens d) fresh) ∙ print-outline d

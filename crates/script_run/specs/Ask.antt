@@ -1,30 +1,27 @@
--- What a step asks of the jar: an op, or nothing where its line is refused. This jar's own rule: docs/DEFINITIONS.md.
-use Rattle.std.specs.Prelude.{ℕ, List, false, None, Result, Ok, Err}
+-- What a step asks of the jar: an op, or nothing where its line is refused. This jar's own rule:
+-- docs/DEFINITIONS.md.
+use Rattle.std.specs.Prelude.{ℕ, List, false, None}
+use Rattle.jar_values.specs.declared.attributes.SameSite.TheVariants.{Unspecified}
+use Rattle.jar_values.specs.declared.attributes.Priority.TheVariants.{Medium}
 use Rattle.jar_types.specs.declared.cookie.Cookie.{Cookie}
-use Rattle.jar_types.specs.declared.cookie.SameSite.TheVariants.{Unspecified}
-use Rattle.jar_types.specs.declared.cookie.Priority.TheVariants.{Medium}
 use Rattle.jar_types.specs.declared.request.Request.{Request}
 use Rattle.jar_types.specs.declared.request.Context.TheVariants.{Strict}
 use Rattle.jar_types.specs.declared.op.Op.{Op}
 use Rattle.jar_types.specs.declared.op.Op.TheVariants.{Set as SetOp, Get as GetOp}
-use Rattle.set_cookie_line.specs.declared.line.Line.{Line}
-use Rattle.set_cookie_line.specs.declared.line.LineRefusal.{LineRefusal}
-use Rattle.set_cookie_line.specs.declared.line.LineRefusal.TheVariants as line
-use Rattle.set_cookie_line.specs.Line.{read}
 use Rattle.site_match.specs.declared.place.Place.{Place}
 use Rattle.site_match.specs.Schemes.{is_secure}
 use Rattle.site_match.specs.DefaultPaths.{default_path}
-use Rattle.script_run.specs.declared.step.Step.{Step}
-use Rattle.script_run.specs.declared.step.What.{What}
-use Rattle.script_run.specs.declared.step.What.TheVariants.{Set, Get}
+use Rattle.script_run.specs.declared.text.set_line.SetLine.{SetLine}
+use Rattle.script_run.specs.declared.text.set_line.SetLine.TheVariants.{Bare, Refused}
+use Rattle.script_run.specs.declared.text.step.Step.{Step}
+use Rattle.script_run.specs.declared.text.step.What.{What}
+use Rattle.script_run.specs.declared.text.step.What.TheVariants.{Set, Get}
 use Rattle.script_run.specs.declared.ask.Ask.{Ask}
 use Rattle.script_run.specs.declared.ask.Ask.TheVariants as ask
-use Rattle.script_run.specs.declared.item.RefusalName.{RefusalName}
-use Rattle.script_run.specs.declared.item.RefusalName.TheVariants.{Control, Empty, TooLong}
 
 -- the cookie of a set: a session cookie of the host alone, with the default path of the place's path
-abbrev pub cookie_of : Place → List ℕ → List ℕ → ℕ → Cookie
-cookie_of place name value now = record {
+abbrev pub cookie_of : Place → ℕ → List ℕ → List ℕ → Cookie
+cookie_of place now name value = record {
   key = place.key;
   host = place.host;
   name = name;
@@ -40,10 +37,11 @@ cookie_of place name value now = record {
 }
 
 -- the op of a set: by no script, and secure as the place's scheme
-abbrev pub set_op : Place → List ℕ → List ℕ → ℕ → Op
-set_op place name value now = SetOp (cookie_of place name value now) false (is_secure place.scheme)
+abbrev pub set_op : Place → ℕ → List ℕ → List ℕ → Op
+set_op place now name value = SetOp (cookie_of place now name value) false (is_secure place.scheme)
 
--- the request of a get: of its place, by no script; the context is Strict, since the place is its own site
+-- the request of a get: of its place, by no script; the context is Strict, since the place is its
+-- own site
 abbrev pub request_of : Place → Request
 request_of place = record {
   key = place.key;
@@ -54,23 +52,16 @@ request_of place = record {
   context = Strict;
 }
 
--- the name of a line's refusal; want of memory is none that a text reads as, and has the last name
-abbrev pub refusal_name : LineRefusal → RefusalName
-refusal_name line.Control = Control
-refusal_name line.Empty = Empty
-refusal_name line.TooLong = TooLong
-refusal_name line.NoMemory = TooLong
+-- what a set asks at a place and a moment: its op, or nothing where its line is refused
+abbrev pub ask_of_line : Place → ℕ → SetLine → Ask
+ask_of_line place now (Bare name value) = ask.Op (set_op place now name value)
+ask_of_line place now (Refused name) = ask.Refused name
 
--- what a set asks, by what its line reads as: its op, or nothing, as the line is refused by this name
-abbrev pub ask_of_line : Place → ℕ → Result Line LineRefusal → Ask
-ask_of_line place now (Ok line) = ask.Op (set_op place line.name line.value now)
-ask_of_line place now (Err refusal) = ask.Refused (refusal_name refusal)
-
--- what is asked at a place, at a moment
-abbrev pub ask_at : What → Place → ℕ → Ask
-ask_at (Set line) place now = ask_of_line place now (read line)
-ask_at Get place now = ask.Op (GetOp (request_of place))
+-- what is asked at a moment
+abbrev pub ask_at : ℕ → What → Ask
+ask_at now (Set place line) = ask_of_line place now line
+ask_at now (Get place) = ask.Op (GetOp (request_of place))
 
 -- what a step asks
 abbrev pub ask_of : Step → Ask
-ask_of s = ask_at s.what s.place s.now
+ask_of s = ask_at s.now s.what

@@ -1,28 +1,37 @@
--- The history of a script is one that the jar of one thread can have made, and the items name its calls. This jar's own
--- rule: docs/DEFINITIONS.md.
+-- The history of a script is one that the jar of one thread can have made, the items name its calls,
+-- and there is one alone. This jar's own rule: docs/DEFINITIONS.md.
 use Rattle.std.specs.Prelude.{ℕ, ◌≡◌, ◌≤◌, ◌+◌, List, [], ◌∷◌, length}
 use Rattle.jar_types.specs.declared.entry.Entry.{Entry}
 use Rattle.jar_types.specs.declared.entry.Entry.TheVariants.{Call, Jar}
 use Rattle.jar_types.specs.Journals.{Rules, IsLegal}
 use Rattle.public_suffix.specs.Rule.{SuffixRule}
 use Rattle.public_suffix.specs.Suffix.{key_of}
-use Rattle.script_run.specs.declared.draft.DraftStep.{DraftStep}
-use Rattle.script_run.specs.declared.step.Step.{Step}
-use Rattle.script_run.specs.declared.item.Item.{Item}
-use Rattle.script_run.specs.declared.item.Item.TheVariants.{At, Refused}
-use Rattle.script_run.specs.Drafts.{StepsFrom}
-use Rattle.script_run.specs.Serial.{run_start, serial_items, serial_journal}
+use Rattle.script_run.specs.declared.text.draft.Draft.{Draft}
+use Rattle.script_run.specs.declared.text.script.Script.{Script}
+use Rattle.script_run.specs.declared.text.step.Step.{Step}
+use Rattle.script_run.specs.declared.report.item.Item.{Item}
+use Rattle.script_run.specs.declared.report.item.Item.TheVariants.{At, Refused}
+use Rattle.script_run.specs.Text.Drafts.{IsScriptFrom}
+use Rattle.script_run.specs.Runs.{Run, Ends, run_start}
 
--- the rules of a run of one caller, who may make this many entries, with keys by these suffix rules
+-- the rules of a run without stored cookies, of one caller who may make this many entries, with keys
+-- by these suffix rules
 abbrev pub rules_of : List SuffixRule → ℕ → Rules
-rules_of suffixes limit = record { callers = 1; limit = limit; start = run_start; key_of = key_of suffixes }
+rules_of suffixes limit = record {
+  hosts = [];
+  callers = 1;
+  limit = limit;
+  start = run_start;
+  key_of = key_of suffixes;
+}
 
--- the journal of a script is legal by its suffix rules, wherever the caller may make an entry for each step
+-- the journal of a script is legal by its suffix rules, wherever the caller may make an entry for
+-- each step
 abbrev pub SerialJournalsAreLegal : Type 0
 SerialJournalsAreLegal =
-    (suffixes : List SuffixRule) (drafts : List DraftStep) (steps : List Step) (limit : ℕ)
-    → StepsFrom suffixes drafts steps → length steps ≤ limit
-    → IsLegal (rules_of suffixes limit) (serial_journal steps)
+    (draft : Draft) (script : Script) (run : Run) (limit : ℕ)
+    → IsScriptFrom draft script → Ends script.steps run → length script.steps ≤ limit
+    → IsLegal (rules_of script.suffixes limit) run.journal
 
 -- the places of the callers' entries, where the first entry of the list has this place
 abbrev pub call_places : ℕ → List Entry → List ℕ
@@ -38,4 +47,10 @@ named_places (Refused name ∷ items) = named_places items
 
 -- the items of a script name the entries of its caller, each once and in their order
 abbrev pub ItemsNameTheCalls : Type 0
-ItemsNameTheCalls = (steps : List Step) → named_places (serial_items steps) ≡ call_places 1 (serial_journal steps)
+ItemsNameTheCalls =
+    (steps : List Step) (run : Run) → Ends steps run
+    → named_places run.items ≡ call_places 1 run.journal
+
+-- a script ends in one way alone
+abbrev pub RunsAreOne : Type 0
+RunsAreOne = (steps : List Step) (run other : Run) → Ends steps run → Ends steps other → run ≡ other

@@ -1,11 +1,9 @@
-pub mod BareLines
-pub mod Form
-pub mod Drafts
+pub mod Text
 pub mod Reports
+pub mod ReportTokens
 pub mod Ask
-pub mod Serial
+pub mod Runs
 pub mod Legal
-pub mod Rounds
 pub mod Refusals
-pub mod Inputs
+pub mod Answers
 pub mod Tool

@@ -1,21 +1,26 @@
--- The line of a refused input: where, as a JSON Pointer (RFC 6901), and why. This jar's own rule: docs/DEFINITIONS.md.
-use Rattle.std.specs.Prelude.{ℕ, List, [], ◌∷◌, ◌++◌, codes, decimal}
+-- The line of a refused input: where, as a JSON Pointer (RFC 6901), and why. This jar's own rule:
+-- docs/DEFINITIONS.md.
+use Rattle.std.specs.Prelude.{ℕ, List, [], ◌∷◌, ◌++◌, codes}
 use Rattle.serde_json.specs.Data.{Data, string, object, no_members, member}
 use Rattle.serde_json.specs.Written.{compact_text}
+use Rattle.script_run.specs.declared.text.refused.Refusal.{Refusal}
+use Rattle.script_run.specs.declared.text.refused.Refusal.TheVariants as name
+use Rattle.script_run.specs.declared.text.refused.Refused.{Refused}
+
+-- the word of a refusal
+abbrev pub refusal_word : Refusal → List ℕ
+refusal_word name.TooLarge = codes "TooLarge"
+refusal_word name.NotJson = codes "NotJson"
+refusal_word name.NotBuilt = codes "NotBuilt"
+refusal_word name.BadSuffixes = codes "BadSuffixes"
+refusal_word name.BadPlace = codes "BadPlace"
 
 -- a refusal as JSON
-abbrev pub refusal_data : List ℕ → List ℕ → Data
-refusal_data path name =
-    object (member (codes "path") (string path) (member (codes "refused") (string name) no_members))
+abbrev pub refusal_data : Refused → Data
+refusal_data r =
+    object (member (codes "path") (string r.path)
+    (member (codes "refused") (string (refusal_word r.name)) no_members))
 
 -- the line of a refusal, which a newline ends
-abbrev pub refusal_text : List ℕ → List ℕ → List ℕ
-refusal_text path name = compact_text (refusal_data path name) ++ (10 ∷ [])
-
--- the path of the URL of a step of the one actor
-abbrev pub place_path : ℕ → List ℕ
-place_path index = codes "/actors/0/steps/" ++ (decimal index ++ codes "/url")
-
--- the line of a URL that is no place
-abbrev pub bad_place_text : ℕ → List ℕ
-bad_place_text index = refusal_text (place_path index) (codes "BadPlace")
+abbrev pub refusal_line : Refused → List ℕ
+refusal_line r = compact_text (refusal_data r) ++ (10 ∷ [])

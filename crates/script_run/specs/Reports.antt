@@ -4,10 +4,10 @@ use Rattle.serde_json.specs.Data.{Data, null, boolean, number, unsigned, string,
 use Rattle.serde_json.specs.View.{items_of}
 use Rattle.serde_json.specs.Written.{compact_text}
 use Rattle.jar_types.specs.declared.cookie.Cookie.{Cookie}
-use Rattle.jar_types.specs.declared.cookie.Priority.{Priority}
-use Rattle.jar_types.specs.declared.cookie.Priority.TheVariants.{Low, Medium, High}
-use Rattle.jar_types.specs.declared.cookie.SameSite.{SameSite}
-use Rattle.jar_types.specs.declared.cookie.SameSite.TheVariants.{Unspecified, NoLimit, Lax as LaxSite, Strict as StrictSite}
+use Rattle.jar_values.specs.declared.attributes.Priority.{Priority}
+use Rattle.jar_values.specs.declared.attributes.Priority.TheVariants.{Low, Medium, High}
+use Rattle.jar_values.specs.declared.attributes.SameSite.{SameSite}
+use Rattle.jar_values.specs.declared.attributes.SameSite.TheVariants.{Unspecified, NoLimit, Lax as LaxSite, Strict as StrictSite}
 use Rattle.jar_types.specs.declared.request.Request.{Request}
 use Rattle.jar_types.specs.declared.request.Context.{Context}
 use Rattle.jar_types.specs.declared.request.Context.TheVariants.{Strict, Lax, LaxUnsafe, Cross}
@@ -18,30 +18,34 @@ use Rattle.jar_types.specs.declared.op.Reply.TheVariants.{Stored, Replaced, Cook
 use Rattle.jar_types.specs.declared.entry.Own.TheVariants.{Whole}
 use Rattle.jar_types.specs.declared.entry.Entry.{Entry}
 use Rattle.jar_types.specs.declared.entry.Entry.TheVariants.{Call, Jar}
-use Rattle.script_run.specs.declared.item.Item.{Item}
-use Rattle.script_run.specs.declared.item.Item.TheVariants.{At, Refused}
-use Rattle.script_run.specs.declared.item.RefusalName.{RefusalName}
-use Rattle.script_run.specs.declared.item.RefusalName.TheVariants.{Control, Empty, TooLong}
+use Rattle.script_run.specs.declared.report.item.Item.{Item}
+use Rattle.script_run.specs.declared.report.item.Item.TheVariants.{At, Refused}
+use Rattle.script_run.specs.declared.text.set_line.RefusalName.{RefusalName}
+use Rattle.script_run.specs.declared.text.set_line.RefusalName.TheVariants.{Control, Empty, TooLong}
 
 -- a whole number
 abbrev pub count_data : ℕ → Data
 count_data n = number (unsigned n)
 
+-- an expiry, or null for none
 abbrev pub expiry_data : Option ℕ → Data
 expiry_data None = null
 expiry_data (Some expiry) = count_data expiry
 
+-- the word of a priority
 abbrev pub priority_word : Priority → List ℕ
 priority_word Low = codes "low"
 priority_word Medium = codes "medium"
 priority_word High = codes "high"
 
+-- the word of a SameSite
 abbrev pub same_site_word : SameSite → List ℕ
 same_site_word Unspecified = codes "unspecified"
 same_site_word NoLimit = codes "none"
 same_site_word LaxSite = codes "lax"
 same_site_word StrictSite = codes "strict"
 
+-- the word of a context
 abbrev pub context_word : Context → List ℕ
 context_word Strict = codes "strict"
 context_word Lax = codes "lax"
@@ -66,6 +70,7 @@ cookie_data c =
     (member (codes "value") (string c.value)
     no_members))))))))))))
 
+-- a request, with its six fields
 abbrev pub request_data : Request → Data
 request_data q =
     object
@@ -77,6 +82,7 @@ request_data q =
     (member (codes "secure") (boolean q.secure)
     no_members))))))
 
+-- an op, with its kind
 abbrev pub op_data : Op → Data
 op_data (Set cookie script secure) =
     object
@@ -88,6 +94,7 @@ op_data (Set cookie script secure) =
 op_data (Get request) =
     object (member (codes "kind") (string (codes "get")) (member (codes "request") (request_data request) no_members))
 
+-- a reply: a word, or the cookies that are got
 abbrev pub reply_data : Reply → Data
 reply_data Stored = string (codes "stored")
 reply_data Replaced = string (codes "replaced")
@@ -105,6 +112,7 @@ entry_data (Call caller now op reply) =
 entry_data (Jar (Whole now)) =
     object (member (codes "now") (count_data now) (member (codes "own") (string (codes "whole")) no_members))
 
+-- the name of a refusal
 abbrev pub refusal_word : RefusalName → List ℕ
 refusal_word Control = codes "Control"
 refusal_word Empty = codes "Empty"
@@ -115,7 +123,7 @@ abbrev pub item_data : Item → Data
 item_data (At place) = object (member (codes "at") (count_data place) no_members)
 item_data (Refused name) = object (member (codes "refused") (string (refusal_word name)) no_members)
 
--- the report of one actor, with no stored hosts
+-- the report of one actor: its items, no stored hosts, and the journal
 abbrev pub report_data : List Item → List Entry → Data
 report_data items journal =
     object

@@ -1,13 +1,15 @@
--- What the program does for its words: the statuses, and what is written under each. This jar's own rule:
--- docs/DEFINITIONS.md.
-use Rattle.std.specs.Prelude.{◌≡◌, ◌⊎◌, ℕ, List, [], ◌∷◌, Bool, false, bytes_eq, codes, Option, Result, Ok, Err}
-use Rattle.std.specs.Io.KnownBytes.{Appends}
+-- What the program does for its words: the statuses, and what is written under each. This jar's own
+-- rule: docs/DEFINITIONS.md.
+use Rattle.std.specs.Prelude.{◌≡◌, ◌⊎◌, ◌+◌, ◌≤◌, ℕ, List, [], ◌∷◌, length, Bool, false, bytes_eq}
+use Rattle.std.specs.Prelude.{codes}
 use Rattle.jar_edge.specs.Faults.{Rose}
-use Rattle.jar_edge.specs.Streams.{WritesPart}
-use Rattle.script_run.specs.declared.input.Input.{Input}
+use Rattle.jar_edge.specs.Streams.{GivesToEnd, GivesSome, TakesJust, TakesPart}
+use Rattle.jar_edge.specs.Told.{SourceTold, SinkTold}
+use Rattle.script_run.specs.declared.status.TheConstants.{WRITE_FAULT}
 use Rattle.script_run.specs.declared.tool.Failure.{Failure}
 use Rattle.script_run.specs.declared.tool.Failure.TheVariants.{ReadFault, NoMemory}
-use Rattle.script_run.specs.Inputs.{IsInput, input_status, input_text}
+use Rattle.script_run.specs.declared.tool.TheConstants.{MOST_INPUT}
+use Rattle.script_run.specs.Answers.{IsTooLarge, IsDue}
 
 -- the words are `serial` alone
 abbrev pub is_serial : List (List ℕ) → Bool
@@ -19,39 +21,34 @@ is_serial (word ∷ other ∷ words) = false
 abbrev pub usage_text : List ℕ
 usage_text = codes "usage: cookiejar run|serial [--store FILE] | check | sample N\n"
 
--- the text was written whole under its status, or a part of it under 5; the sink's count rose just then
-abbrev pub Writes : ℕ → List ℕ → ℕ → Option (List ℕ) → Option (List ℕ) → ℕ → ℕ → Type 0
-Writes due text status old new before now =
-    ((status ≡ due) × Appends old new text × (now ≡ before))
-    ⊎ ((status ≡ 5) × WritesPart old new text × Rose before now)
+-- the sink took just the text, under its status, or some first bytes of it and not all, under that
+-- of a write fault; its count rose just then
+abbrev pub Writes : ℕ → List ℕ → ℕ → SinkTold → SinkTold → Type 0
+Writes due text status old new =
+    ((status ≡ due) × TakesJust old new text × (new.faults ≡ old.faults))
+    ⊎ ((status ≡ WRITE_FAULT) × TakesPart old new text × Rose old.faults new.faults)
 
--- the count of a source rose just where a read failed
-abbrev pub CountsFailure : {T : Type 0} → ℕ → ℕ → Result T Failure → Type 0
-CountsFailure before now (Ok x) = now ≡ before
-CountsFailure before now (Err ReadFault) = Rose before now
-CountsFailure before now (Err NoMemory) = now ≡ before
+-- the source gave just one byte too many, or just these bytes to their end, without a fault, and
+-- this is due for them
+abbrev pub IsDueFor : SourceTold → SourceTold → ℕ → List ℕ → Type 0
+IsDueFor old new status text = (new.faults ≡ old.faults) × (
+    (GivesSome old new (λ n. n ≡ MOST_INPUT + 1) × IsTooLarge status text)
+    ⊎ ((bytes : List ℕ) × GivesToEnd old new bytes × (length bytes ≤ MOST_INPUT)
+    × IsDue bytes status text))
 
--- what a source and a sink tell before and after a call: bytes left, bytes written, and the counts of faults
-pub record Streams : Type 0 where
-  pub left : Option (List ℕ)
-  pub left' : Option (List ℕ)
-  pub reads : ℕ
-  pub reads' : ℕ
-  pub written : Option (List ℕ)
-  pub written' : Option (List ℕ)
-  pub writes : ℕ
-  pub writes' : ℕ
+-- there is no answer: a read failed, with no byte too many, or memory was wanting, with one at most
+abbrev pub Fails : SourceTold → SourceTold → Failure → Type 0
+Fails old new ReadFault = GivesSome old new (λ n. n ≤ MOST_INPUT) × Rose old.faults new.faults
+Fails old new NoMemory = GivesSome old new (λ n. n ≤ MOST_INPUT + 1) × (new.faults ≡ old.faults)
 
--- the status and the text that are due for an input that was read
-pub record IsDue (left left' : Option (List ℕ)) (status : ℕ) (text : List ℕ) : Type 0 where
-  pub input : Input
-  pub is : IsInput left left' input
-  pub due_status : status ≡ input_status input
-  pub due_text : text ≡ input_text input
+-- what the source and the sink of the program tell
+pub record StreamsTold : Type 0 where
+  pub source : SourceTold
+  pub sink : SinkTold
 
 -- an input was read without a fault, and what is due for it was written
-pub record Answers (s : Streams) (status : ℕ) : Type 0 where
-  pub input : Input
-  pub is : IsInput s.left s.left' input
-  pub reads : s.reads' ≡ s.reads
-  pub writes : Writes (input_status input) (input_text input) status s.written s.written' s.writes s.writes'
+pub record Answers (old new : StreamsTold) (status : ℕ) : Type 0 where
+  pub due_status : ℕ
+  pub text : List ℕ
+  pub due : IsDueFor old.source new.source due_status text
+  pub writes : Writes due_status text status old.sink new.sink

@@ -2,13 +2,10 @@
 
 ghost use Rattle.std.specs.Prelude.{◌≡◌, IfOk};
 ghost use Rattle.script_run.specs.Ask as spec;
-ghost use Rattle.set_cookie_line.specs.Line.{read};
-ghost use Rattle.set_cookie_line.specs.declared.line.LineRefusal.TheVariants.{NoMemory as WantOfMemory};
 
-use crate::item::RefusalName;
-use crate::step::{Step, What};
-use jar_types::{Context, Cookie, NoMemory, Op, Priority, Request, SameSite, Text};
-use set_cookie_line::{LineRefusal, read_line};
+use crate::text::set_line::{RefusalName, SetLine};
+use crate::text::step::{Step, What};
+use jar_types::{Context, Cookie, Moment, NoMemory, Op, Priority, Request, SameSite, Text};
 use site_match::{Place, default_path};
 use std::alloc::Global;
 
@@ -21,36 +18,66 @@ pub enum Ask {
     Refused(RefusalName),
 }
 
+/// What a step asks.
+pub fn ask_of(alloc: Global, step: &Step) -> Result<Ask, NoMemory>
+    ensures { IfOk result (λ ask. ask ≡ spec.ask_of step.entry.now) }
+{
+    match &step.what {
+        What::Set { place, line } => ask_of_line(alloc, place, step.now, line),
+        What::Get { place } => Ok(Ask::Op(Op::Get(request_of(alloc, place)?))),
+    }
+}
+
+/// What a set of this line asks.
+fn ask_of_line(alloc: Global, place: &Place, now: Moment, line: &SetLine) -> Result<Ask, NoMemory>
+    ensures { IfOk result (λ ask. ask ≡ spec.ask_of_line place.entry.now now line.entry.now) }
+{
+    match line {
+        SetLine::Bare { name, value } => Ok(Ask::Op(set_op(alloc, place, now, name, value)?)),
+        SetLine::Refused(name) => Ok(Ask::Refused(*name)),
+    }
+}
+
+/// The op of a set.
+fn set_op(
+    alloc: Global,
+    place: &Place,
+    now: Moment,
+    name: &Text,
+    value: &Text,
+) -> Result<Op, NoMemory>
+    ensures { IfOk result (λ op. op ≡ spec.set_op place.entry.now now name.now value.now) }
+{
+    Ok(Op::Set {
+        cookie: cookie_of(alloc, place, now, name, value)?,
+        script: false,
+        secure: place.scheme.is_secure(),
+    })
+}
+
 /// The cookie of a set.
-fn cookie_of(alloc: Global, step: &Step, name: &Text, value: &Text) -> Result<Cookie, NoMemory>
-    ensures { IfOk result (λ c. c
-        ≡ spec.cookie_of step.entry.now.place name.now value.now step.entry.now.now) }
+fn cookie_of(
+    alloc: Global,
+    place: &Place,
+    now: Moment,
+    name: &Text,
+    value: &Text,
+) -> Result<Cookie, NoMemory>
+    ensures { IfOk result (λ c. c ≡ spec.cookie_of place.entry.now now name.now value.now) }
 {
     Ok(Cookie {
-        key: step.place.key.copy(alloc)?,
-        host: step.place.host.copy(alloc)?,
+        key: place.key.copy(alloc)?,
+        host: place.host.copy(alloc)?,
         name: name.copy(alloc)?,
-        path: Text::of(alloc, default_path(step.place.path.as_str()))?,
+        path: Text::of(alloc, default_path(place.path.as_str()))?,
         value: value.copy(alloc)?,
-        creation: step.now,
-        access: step.now,
+        creation: now,
+        access: now,
         expiry: None,
         secure: false,
         http_only: false,
         same_site: SameSite::Unspecified,
         priority: Priority::Medium,
-    })
-}
-
-/// The op of a set.
-fn set_op(alloc: Global, step: &Step, name: &Text, value: &Text) -> Result<Op, NoMemory>
-    ensures { IfOk result (λ op. op
-        ≡ spec.set_op step.entry.now.place name.now value.now step.entry.now.now) }
-{
-    Ok(Op::Set {
-        cookie: cookie_of(alloc, step, name, value)?,
-        script: false,
-        secure: step.place.scheme.is_secure(),
     })
 }
 
@@ -66,38 +93,4 @@ fn request_of(alloc: Global, place: &Place) -> Result<Request, NoMemory>
         script: false,
         context: Context::Strict,
     })
-}
-
-/// The name of a line's refusal.
-fn refusal_name(refusal: LineRefusal) -> Result<RefusalName, NoMemory>
-    ensures value { IfOk result (λ name. name ≡ spec.refusal_name refusal) }
-    ensures sure { IfOk result (λ name. refusal ≡ WantOfMemory → ⊥) }
-{
-    match refusal {
-        LineRefusal::Control => Ok(RefusalName::Control),
-        LineRefusal::Empty => Ok(RefusalName::Empty),
-        LineRefusal::TooLong => Ok(RefusalName::TooLong),
-        LineRefusal::NoMemory => Err(NoMemory),
-    }
-}
-
-/// What a set of this line asks.
-fn ask_of_line(alloc: Global, step: &Step, line: &Text) -> Result<Ask, NoMemory>
-    ensures { IfOk result (λ ask. ask
-        ≡ spec.ask_of_line step.entry.now.place step.entry.now.now (read line.now)) }
-{
-    match read_line(alloc, line.as_str()) {
-        Ok(read) => Ok(Ask::Op(set_op(alloc, step, &read.name, &read.value)?)),
-        Err(refusal) => Ok(Ask::Refused(refusal_name(refusal)?)),
-    }
-}
-
-/// What a step asks.
-pub fn ask_of(alloc: Global, step: &Step) -> Result<Ask, NoMemory>
-    ensures { IfOk result (λ ask. ask ≡ spec.ask_of step.entry.now) }
-{
-    match &step.what {
-        What::Set { line } => ask_of_line(alloc, step, line),
-        What::Get => Ok(Ask::Op(Op::Get(request_of(alloc, &step.place)?))),
-    }
 }

@@ -1,26 +1,19 @@
 //! Scripts of one fetch, from the bytes of a script to those of its report.
 #![tactic(auto)]
 
+mod answer;
 mod ask;
-mod bare_line;
-mod cookie_json;
-mod draft;
-mod entry_json;
-mod form;
-mod input;
-mod item;
 mod law;
-mod output;
-mod places;
-mod refusal;
+mod refusal_line;
 mod report;
-mod serial;
-mod short_text;
-mod step;
+mod run;
+mod status;
+mod text;
 mod tool;
 
-pub use law::{items_name_the_calls, serial_journals_are_legal};
-pub use tool::serial_tool;
+pub use answer::{Answer, answer_of};
+pub use law::{items_name_the_calls, runs_are_one, serial_journals_are_legal};
+pub use tool::{MOST_INPUT, serial_tool};
 
 #[cfg(test)]
 mod tests;

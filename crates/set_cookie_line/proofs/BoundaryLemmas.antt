@@ -1,12 +1,12 @@
 -- A text may be cut at either side of a blank.
-use Rattle.std.proofs.Common.{◌≡◌, ℕ, ◌+◌, ◌-◌, ◌<◌, ◌==◌, true, List, [], ◌∷◌, length, get_or, slice_index, reverse, arith, subst}
+use Rattle.std.proofs.Common.{◌≡◌, ℕ, ◌+◌, ◌-◌, ◌<◌, true, List, length, get_or, reverse, arith, subst}
 use Rattle.std.specs.List.{prefix_len, suffix_len}
 use Rattle.std.specs.Str.{IsUtf8, IsCharBoundary}
 use Rattle.std.proofs.lemmas.List.{get_or-reverse}
 use Rattle.std.proofs.lemmas.List.Sums.{prefix_len_passes, prefix_len-le-length, suffix_len-le-length}
 use Rattle.std.proofs.lemmas.Str.{IsCharBoundary-after_ascii}
 use Rattle.std.proofs.lemmas.Bool.Decides.{nat_tests}
-use Rattle.set_cookie_line.specs.Blanks.{is_blank}
+use Rattle.jar_values.specs.Bytes.{is_blank}
 
 -- a blank is ASCII
 blank_small : (byte : ℕ) → is_blank byte ≡ true → byte < 128
@@ -32,12 +32,3 @@ end_small text some =
     let place = get_or-reverse text (end - 1) 0 (omega arith) in
     let e : length text - 1 - (end - 1) ≡ length text - end = omega arith in
     subst (λ n. get_or text n 0 < 128) e (subst (λ b. b < 128) place small)
-
-dot_small : (byte : ℕ) → (byte == 0x2E) ≡ true → byte < 128
-dot_small byte is = grind (arith, nat_tests)
-
--- behind a leading dot
-pub dot_boundary : (value : List ℕ) → IsUtf8 value → (slice_index value 0 == 0x2E) ≡ true → IsCharBoundary value 1
-dot_boundary [] utf8 is = cc
-dot_boundary (byte ∷ bytes) utf8 is =
-    IsCharBoundary-after_ascii (byte ∷ bytes) 0 utf8 (omega arith) (dot_small byte is)

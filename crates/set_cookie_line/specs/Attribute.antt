@@ -1,18 +1,20 @@
--- One attribute of a line, after the 6265bis draft, section 5.6. This jar's own: Priority, and that an empty
--- Domain is none.
-use Rattle.std.specs.Prelude.{ℕ, Bool, ◌==◌, nat_lt, List, [], map, drop, length, slice_index, codes, bytes_eq, Option, Some, None, unwrap_or, if◌then◌else◌}
-use Rattle.std.specs.Char.{to_ascii_lowercase}
-use Rattle.jar_types.specs.declared.cookie.SameSite.{SameSite}
-use Rattle.jar_types.specs.declared.cookie.SameSite.TheVariants.{Unspecified, NoLimit, Lax, Strict}
-use Rattle.jar_types.specs.declared.cookie.Priority.{Priority}
-use Rattle.jar_types.specs.declared.cookie.Priority.TheVariants.{Low, Medium, High}
+-- One attribute of a line, after the 6265bis draft, section 5.6. This jar's own: Priority, and that
+-- an empty Domain is none.
+use Rattle.std.specs.Prelude.{ℕ, ◌==◌, nat_lt, nat_eq, List, [], length, codes, Option, Some, None, unwrap_or, if◌then◌else◌}
+use Rattle.std.specs.List.{starts_with}
+use Rattle.std.specs.Str.{str_eq_ignore_ascii_case, str_to_ascii_lowercase}
+use Rattle.jar_values.specs.declared.attributes.SameSite.{SameSite}
+use Rattle.jar_values.specs.declared.attributes.SameSite.TheVariants.{Unspecified, NoLimit, Lax, Strict}
+use Rattle.jar_values.specs.declared.attributes.Priority.{Priority}
+use Rattle.jar_values.specs.declared.attributes.Priority.TheVariants.{Low, Medium, High}
+use Rattle.jar_values.specs.Hosts.{undotted}
 use Rattle.cookie_date.specs.Date.{date}
 use Rattle.set_cookie_line.specs.declared.attribute.Kind.{Kind}
 use Rattle.set_cookie_line.specs.declared.attribute.Kind.TheVariants as kind
 use Rattle.set_cookie_line.specs.declared.attribute.TheConstants.{MAX_ATTRIBUTE_BYTES}
 use Rattle.set_cookie_line.specs.Blanks.{trimmed}
 use Rattle.set_cookie_line.specs.Cut.{cut}
-use Rattle.set_cookie_line.specs.MaxAge.{max_age_of}
+use Rattle.set_cookie_line.specs.MaxAge.{read_max_age}
 
 -- an attribute with what its value reads as, or one that is dropped
 pub data Attribute : Type 0 where
@@ -26,52 +28,41 @@ pub data Attribute : Type 0 where
   priority : Priority → Attribute
   dropped : Attribute
 
--- the text in small ASCII letters
-abbrev pub lowered : List ℕ → List ℕ
-lowered text = map to_ascii_lowercase text
-
--- the text is this word, without ASCII case
-abbrev pub is_word : List ℕ → List ℕ → Bool
-is_word word text = bytes_eq (lowered text) word
-
 -- the kind of attribute that has this name, without ASCII case
 abbrev pub kind_of : List ℕ → Kind
 kind_of name =
-    if is_word (codes "expires") name then kind.Expires
-    else (if is_word (codes "max-age") name then kind.MaxAge
-    else (if is_word (codes "domain") name then kind.Domain
-    else (if is_word (codes "path") name then kind.Path
-    else (if is_word (codes "secure") name then kind.Secure
-    else (if is_word (codes "httponly") name then kind.HttpOnly
-    else (if is_word (codes "samesite") name then kind.SameSite
-    else (if is_word (codes "priority") name then kind.Priority
+    if str_eq_ignore_ascii_case name (codes "expires") then kind.Expires
+    else (if str_eq_ignore_ascii_case name (codes "max-age") then kind.MaxAge
+    else (if str_eq_ignore_ascii_case name (codes "domain") then kind.Domain
+    else (if str_eq_ignore_ascii_case name (codes "path") then kind.Path
+    else (if str_eq_ignore_ascii_case name (codes "secure") then kind.Secure
+    else (if str_eq_ignore_ascii_case name (codes "httponly") then kind.HttpOnly
+    else (if str_eq_ignore_ascii_case name (codes "samesite") then kind.SameSite
+    else (if str_eq_ignore_ascii_case name (codes "priority") then kind.Priority
     else kind.Unknown)))))))
 
--- the value of a Domain attribute without one leading `.`
-abbrev pub without_dot : List ℕ → List ℕ
-without_dot value = drop (if slice_index value 0 == 0x2E then 1 else 0) value
+-- the domain of a Domain value: without one dot in front, in small letters; none where nothing is
+-- left
+abbrev pub read_domain : List ℕ → Option (List ℕ)
+read_domain value =
+    if length (undotted value) == 0 then None else Some (str_to_ascii_lowercase (undotted value))
 
--- the domain in small letters, none where nothing is left of it
-abbrev pub domain_of : List ℕ → Option (List ℕ)
-domain_of value =
-    if length (without_dot value) == 0 then None else Some (lowered (without_dot value))
+-- the path of a Path value, none where it does not begin with `/`
+abbrev pub read_path : List ℕ → Option (List ℕ)
+read_path value = if starts_with nat_eq value (codes "/") then Some value else None
 
--- the path, none where it does not begin with `/`
-abbrev pub path_of : List ℕ → Option (List ℕ)
-path_of value = if slice_index value 0 == 0x2F then Some value else None
+-- what a SameSite value names, without ASCII case
+abbrev pub read_same_site : List ℕ → SameSite
+read_same_site value =
+    if str_eq_ignore_ascii_case value (codes "none") then NoLimit
+    else (if str_eq_ignore_ascii_case value (codes "lax") then Lax
+    else (if str_eq_ignore_ascii_case value (codes "strict") then Strict else Unspecified))
 
--- the value of a SameSite attribute
-abbrev pub same_site_of : List ℕ → SameSite
-same_site_of value =
-    if is_word (codes "none") value then NoLimit
-    else (if is_word (codes "lax") value then Lax
-    else (if is_word (codes "strict") value then Strict else Unspecified))
-
--- the value of a Priority attribute
-abbrev pub priority_of : List ℕ → Priority
-priority_of value =
-    if is_word (codes "low") value then Low
-    else (if is_word (codes "high") value then High else Medium)
+-- what a Priority value names, without ASCII case
+abbrev pub read_priority : List ℕ → Priority
+read_priority value =
+    if str_eq_ignore_ascii_case value (codes "low") then Low
+    else (if str_eq_ignore_ascii_case value (codes "high") then High else Medium)
 
 -- an attribute whose value can be read, or one that is dropped
 abbrev pub where_read : (ℕ → Attribute) → Option ℕ → Attribute
@@ -81,13 +72,13 @@ where_read attribute None = dropped
 -- the attribute of a kind with this value
 abbrev pub attribute_of : Kind → List ℕ → Attribute
 attribute_of kind.Expires value = where_read expires (date value)
-attribute_of kind.MaxAge value = where_read max_age (max_age_of value)
-attribute_of kind.Domain value = domain (domain_of value)
-attribute_of kind.Path value = path (path_of value)
+attribute_of kind.MaxAge value = where_read max_age (read_max_age value)
+attribute_of kind.Domain value = domain (read_domain value)
+attribute_of kind.Path value = path (read_path value)
 attribute_of kind.Secure value = secure
 attribute_of kind.HttpOnly value = http_only
-attribute_of kind.SameSite value = same_site (same_site_of value)
-attribute_of kind.Priority value = priority (priority_of value)
+attribute_of kind.SameSite value = same_site (read_same_site value)
+attribute_of kind.Priority value = priority (read_priority value)
 attribute_of kind.Unknown value = dropped
 
 -- the name of an attribute, before the first `=`

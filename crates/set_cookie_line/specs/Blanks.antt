@@ -1,10 +1,7 @@
 -- Texts without the blanks round them, after the 6265bis draft, section 5.6.
-use Rattle.std.specs.Prelude.{ℕ, ◌-◌, Bool, ◌||◌, ◌==◌, List, length, take, drop}
+use Rattle.std.specs.Prelude.{ℕ, ◌-◌, List, length, take, drop}
 use Rattle.std.specs.List.{prefix_len, suffix_len}
-
--- a space or a tab
-abbrev pub is_blank : ℕ → Bool
-is_blank byte = byte == 0x20 || byte == 0x09
+use Rattle.jar_values.specs.Bytes.{is_blank}
 
 -- the text without the blanks in front
 abbrev pub without_front : List ℕ → List ℕ

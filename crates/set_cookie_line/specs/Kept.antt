@@ -1,14 +1,16 @@
--- The attributes that a line keeps: of several of one kind the last, after the 6265bis draft, section 5.7.
+-- The attributes that a line keeps: of several of one kind the last, after the 6265bis draft,
+-- section 5.7.
 use Rattle.std.specs.Prelude.{ℕ, Bool, true, false, ◌==◌, List, [], ◌∷◌, map, Option, Some, None, unwrap_or, option_map}
 use Rattle.std.specs.Option.{option_or, option_copied}
 use Rattle.std.specs.List.{list_any, slice_split}
-use Rattle.jar_types.specs.declared.cookie.SameSite.{SameSite}
-use Rattle.jar_types.specs.declared.cookie.SameSite.TheVariants.{Unspecified}
-use Rattle.jar_types.specs.declared.cookie.Priority.{Priority}
-use Rattle.jar_types.specs.declared.cookie.Priority.TheVariants.{Medium}
+use Rattle.std.specs.Str.{str_to_ascii_lowercase}
+use Rattle.jar_values.specs.declared.attributes.SameSite.{SameSite}
+use Rattle.jar_values.specs.declared.attributes.SameSite.TheVariants.{Unspecified}
+use Rattle.jar_values.specs.declared.attributes.Priority.{Priority}
+use Rattle.jar_values.specs.declared.attributes.Priority.TheVariants.{Medium}
 use Rattle.set_cookie_line.specs.declared.kept.Kept.{Kept}
 use Rattle.set_cookie_line.specs.Attribute as attribute
-use Rattle.set_cookie_line.specs.Attribute.{Attribute, lowered}
+use Rattle.set_cookie_line.specs.Attribute.{Attribute}
 
 -- what the attributes of a line come to
 pub record Attributes : Type 0 where
@@ -79,12 +81,19 @@ attributes_of attributes = record {
   priority = unwrap_or (last_of priority_of attributes) Medium;
 }
 
+-- what the attributes between the semicolons of a text come to
+abbrev pub attributes_between : List ℕ → Attributes
+attributes_between text =
+    attributes_of (map attribute.read_attribute (slice_split (λ byte. byte == 0x3B) text))
+
+-- ---- that no public clause cites
+
 -- the attributes that were kept so far, where a domain is kept in the letters that it is written in
 abbrev pub kept_view : Kept → Attributes
 kept_view kept = record {
   expires = kept.expires;
   max_age = kept.max_age;
-  domain = option_map lowered (option_copied kept.domain);
+  domain = option_map str_to_ascii_lowercase (option_copied kept.domain);
   path = option_copied kept.path;
   secure = kept.secure;
   http_only = kept.http_only;
@@ -103,8 +112,3 @@ with_attribute kept attribute.http_only = record kept { http_only = true }
 with_attribute kept (attribute.same_site same_site) = record kept { same_site = same_site }
 with_attribute kept (attribute.priority priority) = record kept { priority = priority }
 with_attribute kept attribute.dropped = kept
-
--- what the attributes between the semicolons of a text come to
-abbrev pub attributes_between : List ℕ → Attributes
-attributes_between text =
-    attributes_of (map attribute.read_attribute (slice_split (λ byte. byte == 0x3B) text))

@@ -1,18 +1,14 @@
 -- Set-Cookie lines, after the 6265bis draft, section 5.6.
-use Rattle.std.specs.Prelude.{◌≡◌, ℕ, ◌+◌, ◌⊎◌, Bool, ◌&&◌, ◌||◌, ◌==◌, nat_le, nat_lt, List, [], length, Option, Some, None, Result, Ok, Err, IsOk, MatchResult, if◌then◌else◌}
-use Rattle.std.specs.Int.{is_in_range}
+use Rattle.std.specs.Prelude.{◌≡◌, ℕ, ◌+◌, ◌⊎◌, ◌&&◌, ◌==◌, nat_lt, List, [], length, Option, Some, None, Result, Ok, Err, IsOk, MatchResult, if◌then◌else◌}
 use Rattle.std.specs.List.{list_any}
+use Rattle.jar_values.specs.declared.names.TheConstants.{MAX_PAIR_BYTES}
+use Rattle.jar_values.specs.Bytes.{is_control}
 use Rattle.set_cookie_line.specs.declared.line.Line.{Line}
 use Rattle.set_cookie_line.specs.declared.line.LineRefusal.{LineRefusal}
 use Rattle.set_cookie_line.specs.declared.line.LineRefusal.TheVariants.{Control, Empty, TooLong, NoMemory}
-use Rattle.set_cookie_line.specs.declared.line.TheConstants.{MAX_PAIR_BYTES}
 use Rattle.set_cookie_line.specs.Blanks.{trimmed}
 use Rattle.set_cookie_line.specs.Cut.{cut}
 use Rattle.set_cookie_line.specs.Kept.{Attributes, attributes_of, attributes_between}
-
--- a control byte other than the tab
-abbrev pub is_control : ℕ → Bool
-is_control byte = nat_le byte 0x08 || is_in_range 0x0A 0x1F byte || byte == 0x7F
 
 -- the name of a line, by its pair cut at the first `=`: a pair without `=` has none
 abbrev pub name_of : List ℕ × Option (List ℕ) → List ℕ
@@ -75,13 +71,13 @@ unless_refused (Some refusal) line = Err refusal
 unless_refused None line = Ok line
 
 -- the parts of a line, or its first refusal
-unfoldable pub read : List ℕ → Result Line LineRefusal
-read text =
+unfoldable pub read_line : List ℕ → Result Line LineRefusal
+read_line text =
     unless_refused (first_refusal text (line_name text) (line_value text))
     (line_of (line_name text) (line_value text) (line_attributes text))
 
 -- the result is what the text reads as, or want of memory where it reads as a line
 abbrev pub Reads : List ℕ → Result Line LineRefusal → Type 0
 Reads text result =
-    MatchResult result (λ line. read text ≡ Ok line)
-    (λ refusal. (read text ≡ Err refusal) ⊎ ((refusal ≡ NoMemory) × IsOk (read text)))
+    MatchResult result (λ line. read_line text ≡ Ok line)
+    (λ refusal. (read_line text ≡ Err refusal) ⊎ ((refusal ≡ NoMemory) × IsOk (read_line text)))

@@ -1,11 +1,13 @@
 //! The names and values of attributes.
 
-ghost use Rattle.std.specs.Prelude.{◌≡◌, ◌==◌, ◌<◌, slice_index, option_copied, option_map};
+ghost use Rattle.std.specs.Prelude.{◌≡◌, option_copied, option_map};
+ghost use Rattle.std.specs.Str.{str_to_ascii_lowercase};
+ghost use Rattle.jar_values.specs.Hosts.{undotted};
 ghost use Rattle.set_cookie_line.specs.Attribute as spec;
 
 use crate::blanks::trim;
 use crate::cut::cut;
-use jar_types::{Priority, SameSite};
+use jar_values::{Priority, SameSite};
 
 /// The most bytes of an attribute's value, after its blanks are removed.
 ///
@@ -14,7 +16,7 @@ pub const MAX_ATTRIBUTE_BYTES: usize = 1024;
 
 /// The kind of an attribute, by its name.
 #[derive(Clone, Copy)]
-pub(crate) enum Kind {
+pub enum Kind {
     Expires,
     MaxAge,
     Domain,
@@ -26,8 +28,21 @@ pub(crate) enum Kind {
     Unknown,
 }
 
+/// The name and the value of the attribute that a text is, before and after its first `=`.
+///
+/// The 6265bis draft, section 5.6.
+pub fn attribute_parts(text: &str) -> (&str, &str)
+    ensures name { result.0.now ≡ spec.attribute_name text.now }
+    ensures value { result.1.now ≡ spec.attribute_value text.now }
+{
+    let (name, value) = cut(text, '=');
+    (trim(name), trim(value.unwrap_or("")))
+}
+
 /// The kind of attribute that has this name, without ASCII case.
-pub(crate) fn kind_of(name: &str) -> Kind
+///
+/// The 6265bis draft, section 5.6; Priority is this jar's own.
+pub fn kind_of(name: &str) -> Kind
     ensures { result ≡ spec.kind_of name.now }
 {
     if name.eq_ignore_ascii_case("expires") {
@@ -51,44 +66,13 @@ pub(crate) fn kind_of(name: &str) -> Kind
     }
 }
 
-/// The name of the attribute that a text is, before its first `=`.
-pub(crate) fn attribute_name(text: &str) -> &str
-    ensures { result.now ≡ spec.attribute_name text.now }
-{
-    trim(cut(text, b'=').0)
-}
-
-/// The value of the attribute that a text is, after its first `=`.
-pub(crate) fn attribute_value(text: &str) -> &str
-    ensures { result.now ≡ spec.attribute_value text.now }
-{
-    trim(cut(text, b'=').1.unwrap_or(""))
-}
-
-// Whether a text begins with this byte.
-fn begins_with(text: &str, byte: u8) -> bool
-    requires { 0 < byte }
-    ensures { result ≡ (slice_index text.now 0 == byte) }
-{
-    text.as_bytes().first() == Some(&byte)
-}
-
-// A Domain value without one leading `.`.
-fn without_dot(value: &str) -> &str
-    ensures { result.now ≡ spec.without_dot value.now }
-{
-    if begins_with(value, b'.') {
-        &value[1..]
-    } else {
-        value
-    }
-}
-
-/// The domain of a Domain value without one leading `.`, in the letters that it is written in; none where it is empty.
+/// The domain of a Domain value without one dot in front, in the letters that it is written in;
+/// none where nothing is left.
 ///
 /// The 6265bis draft, section 5.6.3.
-pub(crate) fn domain_of(value: &str) -> Option<&str>
-    ensures { option_map spec.lowered (option_copied result) ≡ spec.domain_of value.now }
+pub fn read_domain(value: &str) -> Option<&str>
+    ensures { option_map str_to_ascii_lowercase (option_copied result)
+        ≡ spec.read_domain value.now }
 {
     let domain = without_dot(value);
     if domain.is_empty() {
@@ -101,21 +85,21 @@ pub(crate) fn domain_of(value: &str) -> Option<&str>
 /// The path of a Path value; none where it does not begin with `/`.
 ///
 /// The 6265bis draft, section 5.6.4.
-pub(crate) fn path_of(value: &str) -> Option<&str>
-    ensures { option_copied result ≡ spec.path_of value.now }
+pub fn read_path(value: &str) -> Option<&str>
+    ensures { option_copied result ≡ spec.read_path value.now }
 {
-    if begins_with(value, b'/') {
+    if value.starts_with("/") {
         Some(value)
     } else {
         None
     }
 }
 
-/// The value of a SameSite attribute.
+/// What a SameSite value names.
 ///
 /// The 6265bis draft, section 5.6.7.
-pub(crate) fn same_site_of(value: &str) -> SameSite
-    ensures { result ≡ spec.same_site_of value.now }
+pub fn read_same_site(value: &str) -> SameSite
+    ensures { result ≡ spec.read_same_site value.now }
 {
     if value.eq_ignore_ascii_case("none") {
         SameSite::NoLimit
@@ -128,11 +112,11 @@ pub(crate) fn same_site_of(value: &str) -> SameSite
     }
 }
 
-/// The value of a Priority attribute.
+/// What a Priority value names.
 ///
 /// This jar's own rule: docs/DEFINITIONS.md.
-pub(crate) fn priority_of(value: &str) -> Priority
-    ensures { result ≡ spec.priority_of value.now }
+pub fn read_priority(value: &str) -> Priority
+    ensures { result ≡ spec.read_priority value.now }
 {
     if value.eq_ignore_ascii_case("low") {
         Priority::Low
@@ -140,5 +124,16 @@ pub(crate) fn priority_of(value: &str) -> Priority
         Priority::High
     } else {
         Priority::Medium
+    }
+}
+
+/// A Domain value without one dot in front.
+fn without_dot(value: &str) -> &str
+    ensures { result.now ≡ undotted value.now }
+{
+    if value.starts_with(".") {
+        &value[1..]
+    } else {
+        value
     }
 }

@@ -2,34 +2,21 @@
 
 ghost use Rattle.std.specs.Prelude.{◌≡◌};
 ghost use Rattle.std.specs.List.{prefix_len, suffix_len};
+ghost use Rattle.jar_values.specs.Bytes.{is_blank};
 ghost use Rattle.set_cookie_line.specs.Blanks as spec;
 
-// Whether a byte is a space or a tab.
-fn is_blank(byte: u8) -> bool
-    ensures { result ≡ spec.is_blank byte }
+use jar_values::is_blank;
+
+/// The text without the spaces and tabs at both ends.
+///
+/// The 6265bis draft, section 5.6.
+pub fn trim(text: &str) -> &str
+    ensures { result.now ≡ spec.trimmed text.now }
 {
-    byte == b' ' || byte == b'\t'
+    without_end(without_front(text))
 }
 
-// How many blanks a text begins with.
-fn front_blanks(bytes: &[u8]) -> usize
-    ensures { result ≡ prefix_len spec.is_blank bytes.now }
-{
-    bytes.iter().take_while(|byte| is_blank(**byte)).count()
-}
-
-// How many blanks a text ends with.
-fn end_blanks(bytes: &[u8]) -> usize
-    ensures { result ≡ suffix_len spec.is_blank bytes.now }
-{
-    bytes
-        .iter()
-        .rev()
-        .take_while(|byte| is_blank(**byte))
-        .count()
-}
-
-// The text without the blanks in front.
+/// The text without the blanks in front.
 fn without_front(text: &str) -> &str
     ensures { result.now ≡ spec.without_front text.now }
 {
@@ -37,7 +24,7 @@ fn without_front(text: &str) -> &str
     &text[start..]
 }
 
-// The text without the blanks at its end.
+/// The text without the blanks at its end.
 fn without_end(text: &str) -> &str
     ensures { result.now ≡ spec.without_end text.now }
 {
@@ -45,11 +32,20 @@ fn without_end(text: &str) -> &str
     &text[..end]
 }
 
-/// The text without the spaces and tabs at both ends.
-///
-/// The 6265bis draft, section 5.6.
-pub(crate) fn trim(text: &str) -> &str
-    ensures { result.now ≡ spec.trimmed text.now }
+/// How many blanks a text begins with.
+fn front_blanks(bytes: &[u8]) -> usize
+    ensures { result ≡ prefix_len is_blank bytes.now }
 {
-    without_end(without_front(text))
+    bytes.iter().take_while(|byte| is_blank(**byte)).count()
+}
+
+/// How many blanks a text ends with.
+fn end_blanks(bytes: &[u8]) -> usize
+    ensures { result ≡ suffix_len is_blank bytes.now }
+{
+    bytes
+        .iter()
+        .rev()
+        .take_while(|byte| is_blank(**byte))
+        .count()
 }

@@ -5,28 +5,42 @@ ghost use Rattle.set_cookie_line.specs.Attribute.{attribute_of, read_attribute};
 ghost use Rattle.set_cookie_line.specs.Kept as spec;
 
 use crate::attribute::{
-    Kind, MAX_ATTRIBUTE_BYTES, attribute_name, attribute_value, domain_of, kind_of, path_of,
-    priority_of, same_site_of,
+    Kind, MAX_ATTRIBUTE_BYTES, attribute_parts, kind_of, read_domain, read_path, read_priority,
+    read_same_site,
 };
 use crate::max_age::read_max_age;
 use cookie_date::cookie_date;
-use jar_types::{Moment, Priority, SameSite};
+use jar_values::{Moment, Priority, SameSite};
 
 /// The attributes that were kept so far.
 #[derive(Clone, Copy)]
-pub(crate) struct Kept<'a> {
-    pub(crate) expires: Option<Moment>,
-    pub(crate) max_age: Option<u32>,
-    pub(crate) domain: Option<&'a str>,
-    pub(crate) path: Option<&'a str>,
-    pub(crate) secure: bool,
-    pub(crate) http_only: bool,
-    pub(crate) same_site: SameSite,
-    pub(crate) priority: Priority,
+pub struct Kept<'a> {
+    pub expires: Option<Moment>,
+    pub max_age: Option<u32>,
+    pub domain: Option<&'a str>,
+    pub path: Option<&'a str>,
+    pub secure: bool,
+    pub http_only: bool,
+    pub same_site: SameSite,
+    pub priority: Priority,
+}
+
+/// What the attributes between the semicolons of a text come to.
+///
+/// The 6265bis draft, sections 5.6 and 5.7.
+#[tactic(auto, using(crate::proofs::KeptLemmas::attributes_push))]
+pub fn attributes_between(text: &str) -> Kept<'_>
+    ensures { spec.kept_view result ≡ spec.attributes_between text.now }
+{
+    let mut kept = no_attributes();
+    for attribute in text.split(';') {
+        keep_text(&mut kept, attribute);
+    }
+    kept
 }
 
 /// No attributes.
-pub(crate) fn no_attributes<'a>() -> Kept<'a>
+pub fn no_attributes<'a>() -> Kept<'a>
     ensures { spec.kept_view result ≡ spec.attributes_of [] }
 {
     Kept {
@@ -41,7 +55,19 @@ pub(crate) fn no_attributes<'a>() -> Kept<'a>
     }
 }
 
-// Keeps one attribute more, of this kind and value.
+/// Keeps the attribute that a text is, unless it is dropped.
+#[tactic(auto, unfolding(crate::specs::Attribute::read_attribute))]
+fn keep_text<'a>(kept: &mut Kept<'a>, text: &'a str)
+    ensures { spec.kept_view kept.new
+        ≡ spec.with_attribute (spec.kept_view kept.old) (read_attribute text.now) }
+{
+    let (name, value) = attribute_parts(text);
+    if value.len() <= MAX_ATTRIBUTE_BYTES {
+        keep_value(kept, kind_of(name), value);
+    }
+}
+
+/// Keeps one attribute more, of this kind and value, unless its date or number can't be read.
 fn keep_value<'a>(kept: &mut Kept<'a>, kind: Kind, value: &'a str)
     ensures { spec.kept_view kept.new
         ≡ spec.with_attribute (spec.kept_view kept.old) (attribute_of kind value.now) }
@@ -57,38 +83,12 @@ fn keep_value<'a>(kept: &mut Kept<'a>, kind: Kind, value: &'a str)
                 kept.max_age = Some(seconds);
             }
         }
-        Kind::Domain => kept.domain = domain_of(value),
-        Kind::Path => kept.path = path_of(value),
+        Kind::Domain => kept.domain = read_domain(value),
+        Kind::Path => kept.path = read_path(value),
         Kind::Secure => kept.secure = true,
         Kind::HttpOnly => kept.http_only = true,
-        Kind::SameSite => kept.same_site = same_site_of(value),
-        Kind::Priority => kept.priority = priority_of(value),
+        Kind::SameSite => kept.same_site = read_same_site(value),
+        Kind::Priority => kept.priority = read_priority(value),
         Kind::Unknown => (),
     }
-}
-
-// Keeps the attribute that a text is, unless it is dropped.
-#[tactic(auto, unfolding(crate::specs::Attribute::read_attribute))]
-fn keep_text<'a>(kept: &mut Kept<'a>, text: &'a str)
-    ensures { spec.kept_view kept.new
-        ≡ spec.with_attribute (spec.kept_view kept.old) (read_attribute text.now) }
-{
-    let value = attribute_value(text);
-    if value.len() <= MAX_ATTRIBUTE_BYTES {
-        keep_value(kept, kind_of(attribute_name(text)), value);
-    }
-}
-
-/// What the attributes between the semicolons of a text come to.
-///
-/// The 6265bis draft, sections 5.6 and 5.7.
-#[tactic(auto, using(crate::proofs::KeptLemmas::attributes_push))]
-pub(crate) fn read_attributes(text: &str) -> Kept<'_>
-    ensures { spec.kept_view result ≡ spec.attributes_between text.now }
-{
-    let mut kept = no_attributes();
-    for attribute in text.split(';') {
-        keep_text(&mut kept, attribute);
-    }
-    kept
 }

@@ -9,5 +9,5 @@ mod line;
 mod max_age;
 
 pub use attribute::MAX_ATTRIBUTE_BYTES;
-pub use line::{Line, LineRefusal, MAX_PAIR_BYTES, read_line};
+pub use line::{Line, LineRefusal, read_line};
 pub use max_age::MAX_AGE_SECONDS;

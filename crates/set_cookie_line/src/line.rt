@@ -2,23 +2,19 @@
 
 ghost use Rattle.std.specs.Prelude.{◌≡◌, IfOk, option_copied, option_map};
 ghost use Rattle.std.specs.List.{list_any};
-ghost use Rattle.set_cookie_line.specs.Attribute.{lowered};
+ghost use Rattle.std.specs.Str.{str_to_ascii_lowercase};
+ghost use Rattle.jar_values.specs.Bytes.{is_control};
 ghost use Rattle.set_cookie_line.specs.Cut as cut_spec;
 ghost use Rattle.set_cookie_line.specs.Kept.{kept_view};
 ghost use Rattle.set_cookie_line.specs.Line as spec;
 
 use crate::blanks::trim;
 use crate::cut::cut;
-use crate::kept::{Kept, no_attributes, read_attributes};
-use jar_types::{Moment, NoMemory, Priority, SameSite, Text};
+use crate::kept::{Kept, attributes_between, no_attributes};
+use jar_values::{MAX_PAIR_BYTES, Moment, NoMemory, Priority, SameSite, Text, is_control};
 use std::alloc::Global;
 use std::error::Error;
 use std::fmt;
-
-/// The most bytes of a line's name and value together.
-///
-/// The 6265bis draft, section 5.6.
-pub const MAX_PAIR_BYTES: usize = 4096;
 
 /// Why a line is refused, in the order in which the causes apply.
 #[derive(Clone, Copy, Debug, PartialEq, Eq)]
@@ -32,19 +28,6 @@ pub enum LineRefusal {
     /// Memory was wanting.
     NoMemory,
 }
-
-impl fmt::Display for LineRefusal {
-    fn fmt<W: fmt::Write>(&self, f: &mut fmt::Formatter<W>) -> fmt::Result {
-        match self {
-            LineRefusal::Control => write!(f, "a control byte"),
-            LineRefusal::Empty => write!(f, "no name and no value"),
-            LineRefusal::TooLong => write!(f, "name and value are too long"),
-            LineRefusal::NoMemory => write!(f, "out of memory"),
-        }
-    }
-}
-
-impl Error for LineRefusal {}
 
 /// The parts of a Set-Cookie line.
 ///
@@ -65,51 +48,69 @@ pub struct Line {
     pub priority: Priority,
 }
 
-// Whether a line has a control byte other than the tab.
-fn has_control(bytes: &[u8]) -> bool
-    ensures { result ≡ list_any spec.is_control bytes.now }
+/// Reads a Set-Cookie line.
+///
+/// Refusals, in this order: a control byte other than the tab; neither a name nor a value; more
+/// than [`MAX_PAIR_BYTES`] of name and value; want of memory.
+///
+/// The 6265bis draft, section 5.6.
+#[tactic(auto, unfolding(crate::specs::Line::read_line))]
+pub fn read_line(alloc: Global, line: &str) -> Result<Line, LineRefusal>
+    ensures { spec.Reads line.now result }
 {
-    bytes
-        .iter()
-        .any(|byte| matches!(*byte, 0x00..=0x08 | 0x0A..=0x1F | 0x7F))
+    let (pair, rest) = cut(line, ';');
+    let (name, value) = pair_parts(pair);
+    if let Some(refusal) = first_refusal(line, name, value) {
+        return Err(refusal);
+    }
+    Ok(line_of(alloc, name, value, attributes_after(rest))?)
 }
 
-// The name and the value of a line's pair.
-fn read_pair(pair: &str) -> (&str, &str)
+/// The name and the value of a line's pair.
+fn pair_parts(pair: &str) -> (&str, &str)
     ensures name { result.0.now ≡ spec.name_of (cut_spec.cut 0x3D pair.now) }
     ensures value { result.1.now ≡ spec.value_of (cut_spec.cut 0x3D pair.now) }
 {
-    match cut(pair, b'=') {
+    match cut(pair, '=') {
         (name, Some(value)) => (trim(name), trim(value)),
         (value, None) => ("", trim(value)),
     }
 }
 
-// A copy of a text that may be missing.
-fn copy_of(alloc: Global, text: Option<&str>) -> Result<Option<Text>, NoMemory>
-    ensures { IfOk result (λ copied. copied ≡ option_copied text.entry) }
+/// The first refusal of a line with this name and value.
+fn first_refusal(line: &str, name: &str, value: &str) -> Option<LineRefusal>
+    ensures { result ≡ spec.first_refusal line.now name.now value.now }
 {
-    match text {
-        Some(text) => Ok(Some(Text::of(alloc, text)?)),
-        None => Ok(None),
+    if has_control(line.as_bytes()) {
+        return Some(LineRefusal::Control);
+    }
+    if name.is_empty() && value.is_empty() {
+        return Some(LineRefusal::Empty);
+    }
+    if name.len() + value.len() > MAX_PAIR_BYTES {
+        return Some(LineRefusal::TooLong);
+    }
+    None
+}
+
+/// Whether a line has a control byte other than the tab.
+fn has_control(bytes: &[u8]) -> bool
+    ensures { result ≡ list_any is_control bytes.now }
+{
+    bytes.iter().any(|byte| is_control(*byte))
+}
+
+/// The attributes in what follows the pair of a line.
+fn attributes_after(rest: Option<&str>) -> Kept<'_>
+    ensures { kept_view result ≡ spec.attributes_after (option_copied rest.entry) }
+{
+    match rest {
+        Some(rest) => attributes_between(rest),
+        None => no_attributes(),
     }
 }
 
-// A copy, in small ASCII letters, of a text that may be missing.
-fn lowered_copy_of(alloc: Global, text: Option<&str>) -> Result<Option<Text>, NoMemory>
-    ensures { IfOk result (λ copied. copied ≡ option_map lowered (option_copied text.entry)) }
-{
-    match text {
-        Some(text) => {
-            let mut string = String::from_str(alloc, text)?;
-            string.make_ascii_lowercase();
-            Ok(Some(Text::from_string(string)))
-        }
-        None => Ok(None),
-    }
-}
-
-// The line of a name, a value and attributes.
+/// The line of a name, a value and attributes.
 fn line_of(alloc: Global, name: &str, value: &str, kept: Kept<'_>) -> Result<Line, NoMemory>
     ensures { IfOk result (λ line. line ≡ spec.line_of name.now value.now (kept_view kept.entry)) }
 {
@@ -127,50 +128,51 @@ fn line_of(alloc: Global, name: &str, value: &str, kept: Kept<'_>) -> Result<Lin
     })
 }
 
-// The first refusal of a line with this name and value.
-fn first_refusal(line: &str, name: &str, value: &str) -> Option<LineRefusal>
-    ensures { result ≡ spec.first_refusal line.now name.now value.now }
+/// A copy of a text that may be missing.
+fn copy_of(alloc: Global, text: Option<&str>) -> Result<Option<Text>, NoMemory>
+    ensures { IfOk result (λ copied. copied ≡ option_copied text.entry) }
 {
-    if has_control(line.as_bytes()) {
-        return Some(LineRefusal::Control);
-    }
-    if name.is_empty() && value.is_empty() {
-        return Some(LineRefusal::Empty);
-    }
-    if name.len() + value.len() > MAX_PAIR_BYTES {
-        return Some(LineRefusal::TooLong);
-    }
-    None
-}
-
-// The attributes in what follows the pair of a line.
-fn attributes_after(rest: Option<&str>) -> Kept<'_>
-    ensures { kept_view result ≡ spec.attributes_after (option_copied rest.entry) }
-{
-    match rest {
-        Some(rest) => read_attributes(rest),
-        None => no_attributes(),
+    match text {
+        Some(text) => Ok(Some(Text::of(alloc, text)?)),
+        None => Ok(None),
     }
 }
 
-/// Reads a Set-Cookie line.
-///
-/// Refusals, in this order: a control byte other than the tab; neither a name nor a value; more than
-/// [`MAX_PAIR_BYTES`] of name and value; want of memory.
-///
-/// The 6265bis draft, section 5.6.
-#[tactic(auto, unfolding(crate::specs::Line::read))]
-pub fn read_line(alloc: Global, line: &str) -> Result<Line, LineRefusal>
-    ensures { spec.Reads line.now result }
+/// A copy, in small ASCII letters, of a text that may be missing.
+fn lowered_copy_of(alloc: Global, text: Option<&str>) -> Result<Option<Text>, NoMemory>
+    ensures { IfOk result
+        (λ copied. copied ≡ option_map str_to_ascii_lowercase (option_copied text.entry)) }
 {
-    let (pair, rest) = cut(line, b';');
-    let (name, value) = read_pair(pair);
-    if let Some(refusal) = first_refusal(line, name, value) {
-        return Err(refusal);
+    match text {
+        Some(text) => {
+            let mut string = String::from_str(alloc, text)?;
+            string.make_ascii_lowercase();
+            Ok(Some(Text::from_string(string)?))
+        }
+        None => Ok(None),
     }
-    match line_of(alloc, name, value, attributes_after(rest)) {
-        Ok(line) => Ok(line),
-        Err(NoMemory) => Err(LineRefusal::NoMemory),
+}
+
+impl fmt::Display for LineRefusal {
+    fn fmt<W: fmt::Write>(&self, f: &mut fmt::Formatter<W>) -> fmt::Result {
+        match self {
+            LineRefusal::Control => write!(f, "a control byte"),
+            LineRefusal::Empty => write!(f, "no name and no value"),
+            LineRefusal::TooLong => write!(f, "name and value are too long"),
+            LineRefusal::NoMemory => write!(f, "out of memory"),
+        }
+    }
+}
+
+impl Error for LineRefusal {}
+
+impl From<NoMemory> for LineRefusal {
+    ghost use Rattle.set_cookie_line.specs.declared.line.LineRefusal.TheVariants as refusal;
+
+    ghost from_gives = { λ _ e. e ≡ refusal.NoMemory };
+
+    fn from(_: NoMemory) -> LineRefusal {
+        LineRefusal::NoMemory
     }
 }
 

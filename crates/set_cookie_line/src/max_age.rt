@@ -10,21 +10,38 @@ ghost use Rattle.set_cookie_line.specs.MaxAge as spec;
 /// The 6265bis draft, section 5.5.
 pub const MAX_AGE_SECONDS: u32 = 34_560_000;
 
-// Whether the bytes are digits.
-fn are_digits(bytes: &[u8]) -> bool
-    ensures { result ≡ list_all is_ascii_digit bytes.now }
+/// The seconds of a Max-Age value, at most [`MAX_AGE_SECONDS`], and 0 for a negative one; none
+/// where it is no number.
+///
+/// The 6265bis draft, section 5.6.2.
+pub fn read_max_age(value: &[u8]) -> Option<u32>
+    ensures { result ≡ spec.read_max_age value.now }
 {
-    bytes.iter().all(|byte| byte.is_ascii_digit())
+    if let Some(digits) = value.strip_prefix(b"-") {
+        return if is_numeral(digits) { Some(0) } else { None };
+    }
+    if is_numeral(value) {
+        Some(seconds_of(value))
+    } else {
+        None
+    }
 }
 
-// Whether the bytes are digits, and one at least.
+/// Whether the bytes are digits, and one at least.
 fn is_numeral(bytes: &[u8]) -> bool
     ensures { result ≡ spec.is_numeral bytes.now }
 {
     !bytes.is_empty() && are_digits(bytes)
 }
 
-// The seconds that digits write, or the most that is kept.
+/// Whether the bytes are digits.
+fn are_digits(bytes: &[u8]) -> bool
+    ensures { result ≡ list_all is_ascii_digit bytes.now }
+{
+    bytes.iter().all(|byte| byte.is_ascii_digit())
+}
+
+/// The seconds that digits write, or the most that is kept.
 fn seconds_of(digits: &[u8]) -> u32
     requires { list_all is_ascii_digit digits.now ≡ true }
     ensures { result ≡ spec.seconds_of digits.now }
@@ -34,20 +51,4 @@ fn seconds_of(digits: &[u8]) -> u32
         seconds = (seconds * 10 + u32::from(*digit - b'0')).min(MAX_AGE_SECONDS);
     }
     seconds
-}
-
-/// The seconds of a Max-Age value, at most [`MAX_AGE_SECONDS`], and 0 for a negative one; none where it is no number.
-///
-/// The 6265bis draft, section 5.6.2.
-pub(crate) fn read_max_age(value: &[u8]) -> Option<u32>
-    ensures { result ≡ spec.max_age_of value.now }
-{
-    if let [b'-', digits @ ..] = value {
-        return if is_numeral(digits) { Some(0) } else { None };
-    }
-    if is_numeral(value) {
-        Some(seconds_of(value))
-    } else {
-        None
-    }
 }

@@ -1,36 +1,91 @@
--- Values that RFC 6265, sections 4.1.2.3 and 5.1.4, and RFC 2965, section 1, give in their text, so that a wrong rule in
--- the specs does not check.
-use Rattle.std.proofs.Common.{◌≡◌, true, false, codes, refl}
-use Rattle.jar_types.specs.Hosts.{domain_matches}
-use Rattle.jar_types.specs.Paths.{path_matches}
+-- The definitions at values from outside: RFC 6265, the URL Standard and the 6265bis draft, so that
+-- a wrong rule in the specs does not check.
+use Rattle.std.proofs.Common.{◌≡◌, ℕ, Bool, true, false, List, codes, Option, Some, None, refl, get_or, ap, arith, ◌<◌, ◌≤◌, [], ◌∷◌, lit<}
+use Rattle.jar_types.specs.declared.request.Context.TheVariants.{Strict, Lax, LaxUnsafe, Cross}
+use Rattle.site_match.specs.declared.fetch.FetchAsk.{FetchAsk}
+use Rattle.site_match.specs.declared.place.Place.{Place}
+use Rattle.site_match.specs.declared.scheme.Scheme.{Scheme}
+use Rattle.site_match.specs.declared.scheme.Scheme.TheVariants.{Http, Https, Ws, Wss}
+use Rattle.site_match.specs.Contexts.{is_same_site, context_of}
 use Rattle.site_match.specs.DefaultPaths.{default_path}
+use Rattle.site_match.specs.Places.{IsSoundPlace}
+use Rattle.site_match.specs.Schemes.{scheme_of, default_port, is_secure}
 
--- RFC 6265, section 4.1.2.3: the hosts that get a cookie of the domain example.com
-pub hosts_of_a_domain : (domain_matches (codes "example.com") (codes "example.com") ≡ true)
-    × (domain_matches (codes "www.example.com") (codes "example.com") ≡ true)
-    × (domain_matches (codes "www.corp.example.com") (codes "example.com") ≡ true)
-hosts_of_a_domain = (refl, refl, refl)
-
--- RFC 6265, section 4.1.2.3: the domains that foo.example.com may name, and two that it may not
-pub domains_of_a_host : (domain_matches (codes "foo.example.com") (codes "example.com") ≡ true)
-    × (domain_matches (codes "foo.example.com") (codes "foo.example.com") ≡ true)
-    × (domain_matches (codes "foo.example.com") (codes "bar.example.com") ≡ false)
-    × (domain_matches (codes "foo.example.com") (codes "baz.foo.example.com") ≡ false)
-domains_of_a_host = (refl, refl, refl, refl)
-
--- RFC 6265, section 5.1.3: an address matches itself alone
-pub addresses : (domain_matches (codes "10.0.0.1") (codes "10.0.0.1") ≡ true)
-    × (domain_matches (codes "10.0.0.1") (codes "0.0.1") ≡ false)
-addresses = (refl, refl)
-
--- RFC 2965, section 1, has /tec/waldo match /tec; RFC 6265, section 5.1.4, wants a border behind the prefix
-pub paths : (path_matches (codes "/tec/waldo") (codes "/tec") ≡ true) × (path_matches (codes "/tec") (codes "/tec") ≡ true)
-    × (path_matches (codes "/tec/waldo") (codes "/tec/") ≡ true)
-    × (path_matches (codes "/tecwaldo") (codes "/tec") ≡ false) × (path_matches (codes "/tec") (codes "/tec/waldo") ≡ false)
-paths = (refl, refl, refl, refl, refl)
-
--- RFC 6265, section 5.1.4, step by step: an empty path, no slash in front, one slash alone, and else up to the last
+-- RFC 6265, section 5.1.4, step by step: an empty path, no slash in front, one slash alone, and
+-- else up to the last
 pub default_paths : (default_path (codes "") ≡ codes "/") × (default_path (codes "tec/waldo") ≡ codes "/")
     × (default_path (codes "/tec") ≡ codes "/") × (default_path (codes "/tec/waldo") ≡ codes "/tec")
     × (default_path (codes "/tec/waldo/") ≡ codes "/tec/waldo")
 default_paths = (refl, refl, refl, refl, refl)
+
+-- the URL Standard, section 4.2: the special schemes of cookies and their ports; ftp has none
+schemes : (scheme_of (codes "http") ≡ Some Http) × (scheme_of (codes "https") ≡ Some Https) × (scheme_of (codes "ws") ≡ Some Ws)
+    × (scheme_of (codes "wss") ≡ Some Wss) × (scheme_of (codes "ftp") ≡ None)
+schemes = (refl, refl, refl, refl, refl)
+
+ports : (default_port Http ≡ 80) × (default_port Https ≡ 443) × (default_port Ws ≡ 80) × (default_port Wss ≡ 443)
+ports = (refl, refl, refl, refl)
+
+-- connections of https and wss are secure
+secure : (is_secure Http ≡ false) × (is_secure Https ≡ true) × (is_secure Ws ≡ false) × (is_secure Wss ≡ true)
+secure = (refl, refl, refl, refl)
+
+-- ---- sites and contexts
+
+abbrev at : Scheme → List ℕ → List ℕ → List ℕ → Place
+at scheme host path key = record { scheme = scheme; host = host; port = 443; path = path; key = key }
+
+abbrev home : Place
+home = at Https (codes "www.site.example") (codes "/") (codes "site.example")
+
+abbrev other : Place
+other = at Https (codes "other.example") (codes "/") (codes "other.example")
+
+-- the draft, section 5.2: hosts of one registrable domain are of one site where their schemes are
+-- too
+sites : (is_same_site home (at Https (codes "site.example") (codes "/a") (codes "site.example")) ≡ true)
+    × (is_same_site home (at Wss (codes "a.site.example") (codes "/") (codes "site.example")) ≡ true)
+    × (is_same_site home (at Http (codes "www.site.example") (codes "/") (codes "site.example")) ≡ false)
+    × (is_same_site home other ≡ false)
+sites = (refl, refl, refl, refl)
+
+abbrev asks : Option Place → Option Place → Bool → Bool → FetchAsk
+asks site initiator navigation safe =
+    record { place = home; site = site; initiator = initiator; safe_method = safe; navigation = navigation }
+
+-- the draft, section 5.2.1: a fetch that is no navigation goes by the site for cookies
+fetches : (context_of (asks (Some home) (Some other) false false) ≡ Strict)
+    × (context_of (asks (Some other) (Some home) false true) ≡ Cross)
+    × (context_of (asks None (Some home) false true) ≡ Cross)
+fetches = (refl, refl, refl)
+
+-- the draft, sections 5.2 and 5.6.7: a navigation by the user and one from its own site are of the
+-- site, and one from another site goes by its method
+navigations : (context_of (asks (Some other) None true false) ≡ Strict)
+    × (context_of (asks (Some other) (Some home) true false) ≡ Strict)
+    × (context_of (asks (Some home) (Some other) true true) ≡ Lax)
+    × (context_of (asks (Some home) (Some other) true false) ≡ LaxUnsafe)
+navigations = (refl, refl, refl, refl)
+
+-- ---- what no place is
+
+abbrev named : List ℕ → List ℕ → Place
+named host path = at Https host path (codes "h.test")
+
+no_host : IsSoundPlace (named (codes "") (codes "/")) → ⊥
+no_host sound = let some : 0 < 0 = sound.named in absurd (omega arith)
+
+dot_in_front : IsSoundPlace (named (codes ".h.test") (codes "/")) → ⊥
+dot_in_front sound = let never : true ≡ false = sound.no_dot in absurd (cc)
+
+upper_case : IsSoundPlace (named (codes "H.test") (codes "/")) → ⊥
+upper_case sound = let first : ◌≡◌ {A = ℕ} 104 72 = ap (λ (host : List ℕ). get_or host 0 0) sound.lower in absurd (omega arith)
+
+space_in_a_host : IsSoundPlace (named (codes "h test") (codes "/")) → ⊥
+space_in_a_host sound = let visible : 33 ≤ 32 = (sound.host 1 0 (lit< tt)).0 in absurd (omega arith)
+
+no_slash : IsSoundPlace (named (codes "h.test") (codes "a")) → ⊥
+no_slash sound = let never : false ≡ true = sound.rooted in absurd (cc)
+
+control_in_a_path : IsSoundPlace (named (codes "h.test") (47 ∷ 127 ∷ [])) → ⊥
+control_in_a_path sound = let visible : 127 ≤ 126 = (sound.path 1 0 (lit< tt)).1 in absurd (omega arith)

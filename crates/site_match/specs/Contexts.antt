@@ -1,4 +1,5 @@
--- How a fetch stands to the site that it is made for: this jar's own rule, after the 6265bis draft, section 5.2.
+-- How a fetch stands to the site that it is made for: this jar's own rule, after the 6265bis draft,
+-- section 5.2.
 use Rattle.std.specs.Prelude.{Bool, true, false, ◌&&◌, bytes_eq, Option, None, Some, if◌then◌else◌}
 use Rattle.std.specs.Bool.{beq}
 use Rattle.jar_types.specs.declared.request.Context.{Context}
@@ -24,8 +25,12 @@ method_context false = LaxUnsafe
 -- a navigation is strict without an initiator, or with one of the place's site
 abbrev pub navigation_context : Place → Option Place → Bool → Context
 navigation_context place None safe = Strict
-navigation_context place (Some initiator) safe = if is_same_site initiator place then Strict else method_context safe
+navigation_context place (Some initiator) safe =
+    if is_same_site initiator place then Strict else method_context safe
 
 -- the context of a fetch
 abbrev pub context_of : FetchAsk → Context
-context_of ask = if ask.navigation then navigation_context ask.place ask.initiator ask.safe_method else fetch_context ask.place ask.site
+context_of ask =
+    if ask.navigation
+    then navigation_context ask.place ask.initiator ask.safe_method
+    else fetch_context ask.place ask.site

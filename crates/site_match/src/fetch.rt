@@ -7,8 +7,8 @@ ghost use Rattle.site_match.specs.Contexts.{context_of, is_same_site};
 use crate::place::Place;
 use jar_types::Context;
 
-/// What a fetch says of itself: its place, the site for cookies and the initiator where they are known, whether
-/// its method is safe (GET, HEAD, OPTIONS or TRACE), and whether it is a navigation.
+/// What a fetch says of itself: its place, the site for cookies and the initiator where they are
+/// known, whether its method is safe (GET, HEAD, OPTIONS or TRACE), and whether it is a navigation.
 ///
 /// The 6265bis draft, section 5.2.
 #[derive(Drop)]

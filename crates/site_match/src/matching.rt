@@ -5,17 +5,13 @@ ghost use Rattle.jar_types.specs.Matches as spec;
 
 use crate::host::host_match;
 use crate::path::path_match;
-use jar_types::{Context, Cookie, Moment, Request, SameSite};
-
-/// For how long a cookie without SameSite goes along with an unsafe navigation, in milliseconds.
-///
-/// This jar's own rule: docs/DEFINITIONS.md.
-const UNSAFE_GRACE: u64 = 120_000;
+use jar_types::{Context, Cookie, Request, UNSAFE_GRACE};
+use jar_values::{Moment, SameSite};
 
 /// Whether a request gets a cookie at a moment, its expiry aside.
 ///
-/// RFC 6265, section 5.4, and the 6265bis draft, section 5.8.3; that keys are equal is this jar's own rule:
-/// docs/DEFINITIONS.md.
+/// RFC 6265, section 5.4, and the 6265bis draft, section 5.8.3; that keys are equal is this jar's
+/// own rule: docs/DEFINITIONS.md.
 pub fn matches(request: &Request, cookie: &Cookie, now: Moment) -> bool
     ensures { result ≡ spec.matches request.now cookie.now now }
 {

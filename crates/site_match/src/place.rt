@@ -1,11 +1,11 @@
 //! Places.
 
-ghost use Rattle.std.specs.Prelude.{◌≡◌, ◌<◌, ◌^◌, length, IfOk};
+ghost use Rattle.std.specs.Prelude.{◌≡◌, ◌<◌, length, IfOk};
 ghost use Rattle.site_match.specs.declared.place.PlaceRefusal.TheVariants as refusal;
-ghost use Rattle.site_match.specs.Places.{PlacesUrl, ReadsPlace, begins_with_dot};
+ghost use Rattle.site_match.specs.Places.{PlacesUrl, ReadsPlace, IsSoundPlace, begins_with_dot};
 
 use crate::scheme::Scheme;
-use jar_types::{NoMemory, Text};
+use jar_values::{NoMemory, TEXT_END, Text};
 use public_suffix::Suffixes;
 use std::alloc::Global;
 use std::error::Error;
@@ -46,8 +46,8 @@ impl From<NoMemory> for PlaceRefusal {
     }
 }
 
-/// What cookies need of a URL: its host as the URL Standard writes it, its port, its path without query and
-/// fragment, and the registrable domain of the host.
+/// What cookies need of a URL: its host as the URL Standard writes it, its port, its path without
+/// query and fragment, and the registrable domain of the host.
 ///
 /// The URL Standard, section 4.1.
 #[derive(Drop)]
@@ -62,13 +62,14 @@ pub struct Place {
 impl Place {
     /// The place of a URL, whose key is by the list of suffix rules.
     ///
-    /// It is refused as `BadUrl` exactly where the URL Standard's parser fails, else as `Scheme` where the scheme is
-    /// another, else as `DotHost` where the host begins with a dot.
+    /// It is refused as `BadUrl` exactly where the URL Standard's parser fails, else as `Scheme`
+    /// where the scheme is another, else as `DotHost` where the host begins with a dot.
     ///
     /// The URL Standard, section 4.4; the last refusal is this jar's own rule: docs/DEFINITIONS.md.
     pub fn read(alloc: Global, suffixes: &Suffixes, text: &str) -> Result<Place, PlaceRefusal>
-        requires { length text.now < 2 ^ 30 }
-        ensures { ReadsPlace suffixes.now text.now result }
+        requires { length text.now < TEXT_END }
+        ensures reads { ReadsPlace suffixes.now text.now result }
+        ensures sound { IfOk result IsSoundPlace }
     {
         match Url::parse(alloc, text) {
             Ok(url) => place_of(alloc, suffixes, &url),

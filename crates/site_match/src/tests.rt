@@ -1,4 +1,5 @@
-//! Places, matches and contexts as tables. The values are from the URL Standard, RFC 6265 and this jar's own rules.
+//! Places, matches and contexts as tables. The values are from the URL Standard, RFC 6265 and this
+//! jar's own rules.
 
 use crate::fetch::{FetchAsk, context};
 use crate::host::domain_match;
@@ -6,9 +7,12 @@ use crate::matching::matches;
 use crate::path::{default_path, path_match};
 use crate::place::{Place, PlaceRefusal};
 use crate::scheme::Scheme;
-use jar_types::{Context, Cookie, Moment, NoMemory, Priority, Request, SameSite, Text};
+use jar_types::{Context, Cookie, Request};
+use jar_values::{Moment, NoMemory, Priority, SameSite, Text};
 use public_suffix::Suffixes;
 use std::alloc::Global;
+use std::process::Abort;
+use std::test::Fail;
 
 /// The place of a text by the rules `test` and `co.uk`.
 fn place(alloc: Global, text: &str) -> Result<Place, PlaceRefusal> {
@@ -18,76 +22,88 @@ fn place(alloc: Global, text: &str) -> Result<Place, PlaceRefusal> {
     }
 }
 
+/// The copy of a text's place has this scheme and port, and this host, path and key.
+fn reads(
+    rt: &impl Abort,
+    alloc: Global,
+    text: &str,
+    scheme: Scheme,
+    port: u16,
+    [host, path, key]: [&str; 3],
+) -> Result<(), Fail> {
+    let place = place(alloc, text)?.copy(alloc)?;
+    assert!(rt; place.scheme == scheme && place.port == port, "{text}");
+    assert_eq!(rt; place.host.as_str(), host);
+    assert_eq!(rt; place.path.as_str(), path);
+    assert_eq!(rt; place.key.as_str(), key);
+    Ok(())
+}
+
 #[test]
-fn a_place_is_what_its_url_says(rt: HostRuntime) {
-    for (text, scheme, host, port, path, key) in [
-        (
-            "http://www.H.test/a/b?q#f",
-            Scheme::Http,
-            "www.h.test",
-            80,
-            "/a/b",
-            "h.test",
-        ),
-        (
-            "https://u:p@h.test:8443/",
-            Scheme::Https,
-            "h.test",
-            8443,
-            "/",
-            "h.test",
-        ),
-        (
-            "https://h.test:443",
-            Scheme::Https,
-            "h.test",
-            443,
-            "/",
-            "h.test",
-        ),
-        (
-            "ws://0x7f.1/",
-            Scheme::Ws,
-            "127.0.0.1",
-            80,
-            "/",
-            "127.0.0.1",
-        ),
-        ("http://1.2.3/", Scheme::Http, "1.2.0.3", 80, "/", "1.2.0.3"),
-        (
-            "wss://[2001:DB8::1]/%7e a",
-            Scheme::Wss,
-            "[2001:db8::1]",
-            443,
-            "/%7e%20a",
-            "[2001:db8::1]",
-        ),
-        ("http://a.b./", Scheme::Http, "a.b.", 80, "/", "a.b."),
-        (
-            "http://w.b\u{fc}cher.test/",
-            Scheme::Http,
-            "w.xn--bcher-kva.test",
-            80,
-            "/",
-            "xn--bcher-kva.test",
-        ),
-        (
-            "http://w.a.co.uk/",
-            Scheme::Http,
-            "w.a.co.uk",
-            80,
-            "/",
-            "a.co.uk",
-        ),
-    ] {
-        let read = place(rt.alloc(), text);
-        assert!(rt; read.is_ok(), "{text}");
-        let Ok(read) = read else { return };
-        assert!(rt; read.scheme == scheme && read.port == port, "{text}");
-        assert_eq!(rt; read.host.as_str(), host);
-        assert_eq!(rt; read.path.as_str(), path);
-        assert_eq!(rt; read.key.as_str(), key);
-    }
+fn a_place_is_what_its_url_says(rt: HostRuntime) -> Result<(), Fail> {
+    let alloc = rt.alloc();
+    let (http, https) = (Scheme::Http, Scheme::Https);
+    reads(
+        &rt,
+        alloc,
+        "http://www.H.test/a/b?q#f",
+        http,
+        80,
+        ["www.h.test", "/a/b", "h.test"],
+    )?;
+    reads(
+        &rt,
+        alloc,
+        "https://u:p@h.test:8443/",
+        https,
+        8443,
+        ["h.test", "/", "h.test"],
+    )?;
+    reads(
+        &rt,
+        alloc,
+        "https://h.test:443",
+        https,
+        443,
+        ["h.test", "/", "h.test"],
+    )?;
+    reads(
+        &rt,
+        alloc,
+        "ws://0x7f.1/",
+        Scheme::Ws,
+        80,
+        ["127.0.0.1", "/", "127.0.0.1"],
+    )?;
+    reads(
+        &rt,
+        alloc,
+        "http://1.2.3/",
+        http,
+        80,
+        ["1.2.0.3", "/", "1.2.0.3"],
+    )?;
+    let six = "[2001:db8::1]";
+    reads(
+        &rt,
+        alloc,
+        "wss://[2001:DB8::1]/%7e a",
+        Scheme::Wss,
+        443,
+        [six, "/%7e%20a", six],
+    )?;
+    reads(&rt, alloc, "http://a.b./", http, 80, ["a.b.", "/", "a.b."])?;
+    let coded = ["w.xn--bcher-kva.test", "/", "xn--bcher-kva.test"];
+    reads(&rt, alloc, "http://w.b\u{fc}cher.test/", http, 80, coded)?;
+    reads(
+        &rt,
+        alloc,
+        "http://w.a.co.uk/",
+        http,
+        80,
+        ["w.a.co.uk", "/", "a.co.uk"],
+    )?;
+    Ok(())
 }
 
 #[test]
@@ -103,10 +119,7 @@ fn a_text_is_refused_for_its_first_cause(rt: HostRuntime) {
         ("http://.h.test/", PlaceRefusal::DotHost),
         ("http://./", PlaceRefusal::DotHost),
     ] {
-        match place(rt.alloc(), text) {
-            Ok(_) => assert!(rt; false, "{text} is a place"),
-            Err(found) => assert_eq!(rt; found, refusal, "{text}"),
-        }
+        assert_eq!(rt; place(rt.alloc(), text).err(), Some(refusal), "{text}");
     }
 }
 
@@ -159,7 +172,7 @@ fn paths_match_up_to_a_slash(rt: HostRuntime) {
     }
 }
 
-/// A cookie of the key `h.test`, made at 5, for a host and a path.
+/// A cookie of the key `h.test`, made at 5, for a host and a path, that is Secure and HttpOnly.
 fn cookie(alloc: Global, host: &str, path: &str, same_site: SameSite) -> Result<Cookie, NoMemory> {
     let made = Moment::of(5).ok_or(NoMemory)?;
     Ok(Cookie {
@@ -172,7 +185,7 @@ fn cookie(alloc: Global, host: &str, path: &str, same_site: SameSite) -> Result<
         access: made,
         expiry: None,
         secure: true,
-        http_only: false,
+        http_only: true,
         same_site,
         priority: Priority::Medium,
     })
@@ -191,7 +204,7 @@ fn request(alloc: Global, key: &str, secure: bool, context: Context) -> Result<R
 }
 
 #[test]
-fn a_request_gets_the_cookies_of_its_key_host_and_path(rt: HostRuntime) {
+fn a_request_gets_the_cookies_of_its_key_host_and_path(rt: HostRuntime) -> Result<(), Fail> {
     for (key, secure, host, path, wanted) in [
         ("h.test", true, ".h.test", "/a", true),
         ("h.test", true, "www.h.test", "/", true),
@@ -201,99 +214,78 @@ fn a_request_gets_the_cookies_of_its_key_host_and_path(rt: HostRuntime) {
         ("h.test", false, ".h.test", "/a", false),
         ("s3.h.test", true, ".h.test", "/a", false),
     ] {
-        let asked = request(rt.alloc(), key, secure, Context::Cross);
-        let kept = cookie(rt.alloc(), host, path, SameSite::NoLimit);
-        assert!(rt; asked.is_ok() && kept.is_ok(), "memory");
-        let (Ok(asked), Ok(kept), Some(now)) = (asked, kept, Moment::of(9)) else {
-            return
-        };
+        let asked = request(rt.alloc(), key, secure, Context::Cross)?;
+        let kept = cookie(rt.alloc(), host, path, SameSite::NoLimit)?;
+        let now = Moment::of(9).ok_or("a moment")?;
         assert_eq!(rt; matches(&asked, &kept, now), wanted, "{key} {host} {path}");
     }
+    Ok(())
 }
 
 #[test]
-fn same_site_goes_by_the_context(rt: HostRuntime) {
+fn a_script_gets_no_cookie_that_is_http_only(rt: HostRuntime) -> Result<(), Fail> {
+    let mut asked = request(rt.alloc(), "h.test", true, Context::Strict)?;
+    let mut kept = cookie(rt.alloc(), ".h.test", "/", SameSite::Strict)?;
+    let now = Moment::of(9).ok_or("a moment")?;
+    assert!(rt; matches(&asked, &kept, now), "no script");
+    asked.script = true;
+    assert!(rt; !matches(&asked, &kept, now), "a script");
+    kept.http_only = false;
+    assert!(rt; matches(&asked, &kept, now), "a script and another cookie");
+    Ok(())
+}
+
+#[test]
+fn same_site_goes_by_the_context(rt: HostRuntime) -> Result<(), Fail> {
     for (same_site, context, ms, wanted) in [
         (SameSite::NoLimit, Context::Cross, 9, true),
         (SameSite::Strict, Context::Strict, 9, true),
         (SameSite::Strict, Context::Lax, 9, false),
         (SameSite::Lax, Context::Lax, 9, true),
         (SameSite::Lax, Context::LaxUnsafe, 9, false),
-        (SameSite::Lax, Context::Cross, 9, false),
-        (SameSite::Unspecified, Context::Lax, 999_999, true),
         (SameSite::Unspecified, Context::LaxUnsafe, 120_005, true),
         (SameSite::Unspecified, Context::LaxUnsafe, 120_006, false),
-        (SameSite::Unspecified, Context::Cross, 9, false),
     ] {
-        let asked = request(rt.alloc(), "h.test", true, context);
-        let kept = cookie(rt.alloc(), ".h.test", "/", same_site);
-        assert!(rt; asked.is_ok() && kept.is_ok(), "memory");
-        let (Ok(asked), Ok(kept), Some(now)) = (asked, kept, Moment::of(ms)) else {
-            return
-        };
+        let asked = request(rt.alloc(), "h.test", true, context)?;
+        let kept = cookie(rt.alloc(), ".h.test", "/", same_site)?;
+        let now = Moment::of(ms).ok_or("a moment")?;
         assert_eq!(rt; matches(&asked, &kept, now), wanted, "{ms}");
     }
+    Ok(())
 }
 
-/// The context of a fetch on `https://h.test/` with another place as its site for cookies and its initiator.
+/// The context of a fetch on `https://h.test/` with another place as its site for cookies and its
+/// initiator.
 fn context_from(
     alloc: Global,
-    other: &str,
+    from: &str,
     navigation: bool,
     safe_method: bool,
-) -> Option<Context> {
+) -> Result<Context, PlaceRefusal> {
     let ask = FetchAsk {
-        place: place(alloc, "https://h.test/").ok()?,
-        site: place(alloc, other).ok(),
-        initiator: place(alloc, other).ok(),
+        place: place(alloc, "https://h.test/")?,
+        site: place(alloc, from).ok(),
+        initiator: place(alloc, from).ok(),
         safe_method,
         navigation,
     };
-    Some(context(&ask))
+    Ok(context(&ask))
 }
 
 #[test]
-fn a_context_goes_by_navigation_site_and_method(rt: HostRuntime) {
-    for (other, fetched, navigated_safely, navigated) in [
-        ("", Context::Cross, Context::Strict, Context::Strict),
-        (
-            "wss://www.h.test:9/x",
-            Context::Strict,
-            Context::Strict,
-            Context::Strict,
-        ),
-        (
-            "http://h.test/",
-            Context::Cross,
-            Context::Lax,
-            Context::LaxUnsafe,
-        ),
-        (
-            "https://x.test/",
-            Context::Cross,
-            Context::Lax,
-            Context::LaxUnsafe,
-        ),
+fn a_context_goes_by_navigation_site_and_method(rt: HostRuntime) -> Result<(), Fail> {
+    for (from, navigation, safe_method, wanted) in [
+        ("", false, true, Context::Cross),
+        ("", true, false, Context::Strict),
+        ("wss://www.h.test:9/x", false, false, Context::Strict),
+        ("wss://www.h.test:9/x", true, false, Context::Strict),
+        ("http://h.test/", false, true, Context::Cross),
+        ("http://h.test/", true, true, Context::Lax),
+        ("https://x.test/", false, true, Context::Cross),
+        ("https://x.test/", true, false, Context::LaxUnsafe),
     ] {
-        assert_eq!(rt;
-            context_from(rt.alloc(), other, false, true),
-            Some(fetched),
-            "{other}"
-        );
-        assert_eq!(rt;
-            context_from(rt.alloc(), other, false, false),
-            Some(fetched),
-            "{other}"
-        );
-        assert_eq!(rt;
-            context_from(rt.alloc(), other, true, true),
-            Some(navigated_safely),
-            "{other}"
-        );
-        assert_eq!(rt;
-            context_from(rt.alloc(), other, true, false),
-            Some(navigated),
-            "{other}"
-        );
+        let found = context_from(rt.alloc(), from, navigation, safe_method)?;
+        assert_eq!(rt; found, wanted, "{from}");
     }
+    Ok(())
 }

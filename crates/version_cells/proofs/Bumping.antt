@@ -3,10 +3,11 @@ use Rattle.std.proofs.Common.{◌≡◌, ◌≢◌, ◌<◌, ◌≤◌, ◌+◌,
 use Rattle.std.specs.Prelude.{slice_index}
 use Rattle.std.proofs.lemmas.Bool.{cases_eq}
 use Rattle.atomic_table.specs.Table.{Me, Allows, keeps}
-use Rattle.version_cells.specs.declared.entry.Entry.{Entry}
+use Rattle.version_cells.specs.declared.cells.TheConstants.{CELLS, MOST_ENTRIES}
+use Rattle.version_cells.specs.declared.listing.Listing.{Listing}
 use Rattle.version_cells.specs.declared.view.Kind.TheVariants.{Baton}
 use Rattle.version_cells.specs.declared.view.View.{View}
-use Rattle.version_cells.specs.Entries.{one, has, cells_of, turns}
+use Rattle.version_cells.specs.Listings.{one, has, cells_of, turns}
 use Rattle.version_cells.specs.Views.{memories}
 use Rattle.version_cells.specs.Moves.{after_bump}
 use Rattle.version_cells.specs.Rule.{RuleAt}
@@ -15,12 +16,12 @@ use Rattle.version_cells.proofs.Prefixes.{starts_itself, all_grow}
 use Rattle.version_cells.proofs.Keeping.{seated, baton_moves}
 use Rattle.version_cells.proofs.Steps.{Holding, counted_up}
 
-turns_le : (c : ℕ) (log : List Entry) → turns c log ≤ length log
-turns_le c log = total_of_ones (λ (e : Entry). has c (cells_of e)) log
+turns_le : (c : ℕ) (log : List Listing) → turns c log ≤ length log
+turns_le c log = total_of_ones (λ (e : Listing). has c (cells_of e)) log
 
 -- the word of a cell, and one more once it is bumped
 pub fresh_word : (words : List ℕ) (views : List View) (id : ℕ) (v : View) (c : ℕ)
-    → RuleAt words views id v → 0 < c → c ≤ 4096 → has c v.pending ≡ false
+    → RuleAt words views id v → 0 < c → c ≤ CELLS → has c v.pending ≡ false
     → (slice_index words c ≡ turns c v.own.seen) × ((slice_index words c + 1) % 2 ^ 64 ≡ turns c v.own.seen + 1)
 fresh_word words views id v c k low high fresh =
     let w = k.versions c low high in
@@ -30,13 +31,13 @@ fresh_word words views id v c k low high fresh =
     let room = k.room in
     (is, ap (λ n. (n + 1) % 2 ^ 64) is ∙ counted_up (turns c v.own.seen) (below _ _ few room))
   where
-    below : (a b : ℕ) → a ≤ b → b < 2 ^ 63 → a < 2 ^ 63
+    below : (a b : ℕ) → a ≤ b → b ≤ MOST_ENTRIES → a ≤ MOST_ENTRIES
     below a b h l = omega arith
 
 bumped_words : (words : List ℕ) (views : List View) (id : ℕ) (v : View) (c new : ℕ)
-    → RuleAt words views id v → 0 < c → c ≤ 4096 → has c v.pending ≡ false
+    → RuleAt words views id v → 0 < c → c ≤ CELLS → has c v.pending ≡ false
     → new ≡ turns c v.own.seen + 1
-    → (d : ℕ) → 0 < d → d ≤ 4096
+    → (d : ℕ) → 0 < d → d ≤ CELLS
     → slice_index (set words c new) d ≡ turns d v.own.seen + one (has d (c ∷ v.pending))
 bumped_words words views id v c new k low high fresh is d dlow dhigh = ⊎_elim
     (λ (e : d ≡ c). subst (λ x. slice_index (set words c new) x ≡ turns x v.own.seen + one (has x (c ∷ v.pending))) (sym e)
@@ -46,7 +47,7 @@ bumped_words words views id v c new k low high fresh is d dlow dhigh = ⊎_elim
     (cases_eq d c)
 
 pub bump_kept : (words : List ℕ) (views : List View) (id : ℕ) (v : View) (c : ℕ)
-    → RuleAt words views id v → 0 < c → c ≤ 4096 → has c v.pending ≡ false
+    → RuleAt words views id v → 0 < c → c ≤ CELLS → has c v.pending ≡ false
     → RuleAt (set words c ((slice_index words c + 1) % 2 ^ 64)) (set views id (after_bump v c)) id (after_bump v c)
 bump_kept words views id v c k low high fresh =
     let new : ℕ = (slice_index words c + 1) % 2 ^ 64 in
@@ -60,7 +61,7 @@ bump_kept words views id v c k low high fresh =
     refl (λ n. refl) (λ n. refl) (λ n. refl)
 
 pub bumps : (slots id : ℕ) (me : Me ℕ View) (c : ℕ) → me.0.kind ≡ Baton → me.1 ≡ [] → 0 < c
-    → c ≤ 4096 → has c me.0.pending ≡ false
+    → c ≤ CELLS → has c me.0.pending ≡ false
     → Allows {S = ℕ} {V = View} Holding slots id me c (λ n. (n + 1) % 2 ^ 64) (λ n after. after ≡ (after_bump me.0 c, []))
 bumps slots id me c kind clean low high fresh s r homes at fits = (
   after_bump me.0 c,

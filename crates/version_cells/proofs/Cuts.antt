@@ -4,14 +4,14 @@ use Rattle.std.specs.Prelude.{nat_lt, ◌==◌}
 use Rattle.std.proofs.lemmas.Bool.{cases_order, lt-ltb, le-ltb, eq-eqb, ne_eqb}
 use Rattle.atomic_table.proofs.Lists.{set_here, at_longer}
 use Rattle.atomic_table.specs.Table.{Splits}
-use Rattle.version_cells.specs.declared.entry.Entry.{Entry}
+use Rattle.version_cells.specs.declared.listing.Listing.{Listing}
 use Rattle.version_cells.specs.declared.view.Permit.{Permit}
 use Rattle.version_cells.specs.declared.view.Kind.TheVariants.{Baton, Pass, Copy}
 use Rattle.version_cells.specs.declared.view.View.{View}
-use Rattle.version_cells.specs.Entries.{one, total, owned}
+use Rattle.version_cells.specs.Listings.{one, total, owned}
 use Rattle.version_cells.specs.Views.{is_pass, is_permit_of, no_memory, new_pass, memories, At}
 use Rattle.version_cells.specs.Moves.{after_new_pass, without_permit, baton_copy_with_permit, baton_copy, pass_copy, pass_copy_with_permit, after_lending}
-use Rattle.version_cells.specs.Held.{Fits, AllFit}
+use Rattle.version_cells.specs.Held.{Fits, AllFit, RemembersLast}
 use Rattle.version_cells.specs.Rule.{RuleAt, pass_count, permit_count, entry_count}
 use Rattle.version_cells.proofs.Sums.{total-set, total_push, each_set, each_push}
 use Rattle.version_cells.proofs.Prefixes.{starts_itself}
@@ -26,11 +26,12 @@ pass_cut : (words : List ℕ) (views : List View) (seat : ℕ) (b : View) (id : 
     → RuleAt words views seat b → At views id v
     → v.kind ≢ Baton → l.kind ≢ Baton → r.kind ≢ Baton → AllFit words b.own.seen (memories l)
     → AllFit words b.own.seen (memories r)
+    → RemembersLast l → RemembersLast r
     → ((n : ℕ) → pass_count n l + pass_count n r ≡ pass_count n v)
     → ((n : ℕ) → permit_count n l + permit_count n r ≡ permit_count n v)
     → ((n : ℕ) → entry_count n l + entry_count n r ≡ entry_count n v)
     → RuleAt words (set views id l ++ r ∷ []) seat b
-pass_cut words views seat b id v l r k at vk lk rk lfit rfit passes_fit permits_fit entries_fit = record {
+pass_cut words views seat b id v l r k at vk lk rk lfit rfit llast rlast passes_fit permits_fit entries_fit = record {
   at_seat = at_longer (set views id l) (r ∷ []) seat b (other_there views seat b id v l k.at_seat at vk k.is_baton);
   is_baton = k.is_baton;
   only = each_push (λ by (u : View). u.kind ≡ Baton → by ≡ seat) (set views id l) r
@@ -41,6 +42,8 @@ pass_cut words views seat b id v l r k at vk lk rk lfit rfit passes_fit permits_
   versions = k.versions;
   remembered = each_push (λ by (u : View). AllFit words b.own.seen (memories u)) (set views id l) r
       (each_set (λ by (u : View). AllFit words b.own.seen (memories u)) views id l k.remembered lfit) (λ by. rfit);
+  last = each_push (λ by (u : View). RemembersLast u) (set views id l) r
+      (each_set (λ by (u : View). RemembersLast u) views id l k.last llast) (λ by. rlast);
   passes = λ n. cut (pass_count n) (k.passes n) (passes_fit n);
   permits = λ n. cut (permit_count n) (k.permits n) (permits_fit n);
   entries = λ n. cut (entry_count n) (k.entries n) (entries_fit n);
@@ -58,11 +61,12 @@ baton_cut : (words : List ℕ) (views : List View) (id : ℕ) (v : View) (next :
     (r : View)
     → RuleAt words views id v
     → r.kind ≢ Baton → AllFit words v.own.seen (memories r)
+    → RemembersLast r
     → ((n : ℕ) → one (nat_lt n v.next) + pass_count n v + pass_count n r ≡ pass_count n v + one (nat_lt n next))
     → ((n : ℕ) → one (nat_lt n v.next) + permit_count n (record v { next = next; permit = p }) + permit_count n r ≡ permit_count n v + one (nat_lt n next))
     → ((n : ℕ) → owned n v.own.seen + entry_count n (record v { next = next; permit = p }) + entry_count n r ≡ entry_count n v + owned n v.own.seen)
     → RuleAt words (set views id (record v { next = next; permit = p }) ++ r ∷ []) id (record v { next = next; permit = p })
-baton_cut words views id v next p r k rk rfit passes_fit permits_fit entries_fit = record {
+baton_cut words views id v next p r k rk rfit rlast passes_fit permits_fit entries_fit = record {
   at_seat = at_longer (set views id l) (r ∷ []) id l (set_here views id l (at_length views id v k.at_seat));
   is_baton = k.is_baton;
   only = each_push (λ by (u : View). u.kind ≡ Baton → by ≡ id) (set views id l) r
@@ -73,6 +77,10 @@ baton_cut words views id v next p r k rk rfit passes_fit permits_fit entries_fit
   versions = k.versions;
   remembered = each_push (λ by (u : View). AllFit words v.own.seen (memories u)) (set views id l) r
       (each_set (λ by (u : View). AllFit words v.own.seen (memories u)) views id l k.remembered (k.remembered id v k.at_seat)) (λ by. rfit);
+  last = each_push (λ by (u : View). RemembersLast u) (set views id l) r
+      (each_set (λ by (u : View). RemembersLast u) views id l k.last
+      (λ e. let h : Baton ≡ Pass = sym k.is_baton ∙ e in cc))
+      (λ by. rlast);
   passes = λ n. parts _ _ _ _ _ _ _ _ (total-set (pass_count n) views id v l k.at_seat) (total_push (pass_count n) (set views id l) r) (k.passes n) (passes_fit n);
   permits = λ n. parts _ _ _ _ _ _ _ _ (total-set (permit_count n) views id v l k.at_seat) (total_push (permit_count n) (set views id l) r) (k.permits n) (permits_fit n);
   entries = λ n. parts _ _ _ _ _ _ _ _ (total-set (entry_count n) views id v l k.at_seat) (total_push (entry_count n) (set views id l) r) (k.entries n) (entries_fit n);
@@ -105,8 +113,12 @@ pub cond_none : (b : Bool) → let z : ℕ = cond b 0 0 in z ≡ 0
 cond_none true = refl
 cond_none false = refl
 
-pub blank_fits : (words : List ℕ) (log : List Entry) → Fits words log no_memory
+pub blank_fits : (words : List ℕ) (log : List Listing) → Fits words log no_memory
 blank_fits words log = record { begins = (log, refl); found = omega arith; look = tt }
+
+-- a copy is no pass, so nothing is said of its looks
+copy_no_pass : {P : Type 0} → Copy ≡ Pass → P
+copy_no_pass e = absurd (let h : Copy ≡ Pass = e in cc)
 
 new_number : (n m : ℕ) → pass_count n (new_pass m) ≡ one (m == n)
 new_number n m = refl
@@ -118,7 +130,7 @@ makes_pass id v kind s r at =
       id,
       after_new_pass v,
       baton_cut s.words s.views id v (v.next + 1) v.permit (new_pass v.next) k
-          (λ e. let h : Pass ≡ Baton = e in cc) (blank_fits s.words v.own.seen, tt)
+          (λ e. let h : Pass ≡ Baton = e in cc) (blank_fits s.words v.own.seen, tt) (λ _. refl)
           (λ n. make_sum _ _ _ _ (one_more n v.next))
           (λ n. make_sum _ _ _ _ (ap (λ x. one (nat_lt n v.next) + x) (add-zero _) ∙ one_more n v.next))
           (λ n. make_sum _ _ _ _ (ap (λ x. owned n v.own.seen + (x + 0)) (cond_none (v.next == n)) ∙ add-zero _)),
@@ -132,7 +144,7 @@ gives_permit id v kind s r at =
       without_permit v,
       baton_cut s.words s.views id v v.next None (baton_copy_with_permit v) k
           (λ e. let h : Copy ≡ Baton = e in cc)
-          (record { begins = starts_itself v.own.seen; found = omega arith; look = tt }, tt)
+          (record { begins = starts_itself v.own.seen; found = omega arith; look = tt }, tt) copy_no_pass
           (λ n. make_sum _ _ _ _ (add-zero _))
           (λ n. give_sum _ _ _)
           (λ n. give_sum _ _ _),
@@ -146,7 +158,7 @@ copies_baton id v kind s r at =
       v,
       baton_cut s.words s.views id v v.next v.permit (baton_copy v) k
           (λ e. let h : Copy ≡ Baton = e in cc)
-          (record { begins = starts_itself v.own.seen; found = omega arith; look = tt }, tt)
+          (record { begins = starts_itself v.own.seen; found = omega arith; look = tt }, tt) copy_no_pass
           (λ n. make_sum _ _ _ _ (add-zero _))
           (λ n. make_sum _ _ _ _ (add-zero _))
           (λ n. make_sum _ _ _ _ (add-zero _)),
@@ -159,7 +171,7 @@ copies_pass id v kind s r at =
       r.0,
       r.1,
       pass_cut s.words s.views r.0 r.1 id v v (pass_copy v) k at (pass_no_baton v kind) (pass_no_baton v kind)
-          (λ e. let h : Copy ≡ Baton = e in cc) old (old.0, tt) (λ n. add-zero _) (λ n. add-zero _) (λ n. add-zero _),
+          (λ e. let h : Copy ≡ Baton = e in cc) old (old.0, tt) (k.last id v at) copy_no_pass (λ n. add-zero _) (λ n. add-zero _) (λ n. add-zero _),
     )
 
 lend_sum : (x y : ℕ) → (0 + x) + (0 + y) ≡ y + x
@@ -172,7 +184,7 @@ lends id v kind home s r at =
       r.0,
       r.1,
       pass_cut s.words s.views r.0 r.1 id v (after_lending v) (pass_copy_with_permit v) k at (pass_no_baton v kind) (pass_no_baton v kind)
-          (λ e. let h : Copy ≡ Baton = e in cc) old (old.0, tt) (λ n. add-zero _)
+          (λ e. let h : Copy ≡ Baton = e in cc) old (old.0, tt) (k.last id v at) copy_no_pass (λ n. add-zero _)
           (λ n. lend_sum (one (is_permit_of n v.permit)) (one (v.number == n))
           ∙ ap (λ t. one (is_pass t && (v.number == n)) + one (is_permit_of n v.permit)) (sym kind)
           ∙ ap (λ t. cond t 0 (pass_count n v) + one (is_permit_of n v.permit)) (sym home))

@@ -3,12 +3,12 @@ use Rattle.std.proofs.Common.{◌≡◌, ◌≢◌, ◌≤◌, ◌+◌, ◌&&◌
 use Rattle.std.specs.Prelude.{slice_index, nat_lt, ◌==◌}
 use Rattle.atomic_table.specs.Table.{Me, Allows, keeps}
 use Rattle.atomic_table.proofs.Lists.{set_again}
-use Rattle.version_cells.specs.declared.entry.Entry.{Entry}
+use Rattle.version_cells.specs.declared.listing.Listing.{Listing}
 use Rattle.version_cells.specs.declared.view.Look.{Look}
 use Rattle.version_cells.specs.declared.view.Memory.{Memory}
 use Rattle.version_cells.specs.declared.view.Kind.TheVariants.{Baton, Pass}
 use Rattle.version_cells.specs.declared.view.View.{View}
-use Rattle.version_cells.specs.Entries.{one, owned}
+use Rattle.version_cells.specs.Listings.{one, owned}
 use Rattle.version_cells.specs.Views.{is_pass, is_permit_of, uses_of, is_pass_of, At}
 use Rattle.version_cells.specs.Moves.{longest, after_front}
 use Rattle.version_cells.specs.Held.{LookFits, AllFit}
@@ -24,7 +24,7 @@ pub front_kept : (words : List ℕ) (views : List View) (seat : ℕ) (b : View) 
     → RuleAt words (set views id (after_front v (slice_index words 0))) seat b
 front_kept words views seat b id v k at kind =
     let old = k.remembered id v at in
-    let log : List Entry = b.own.seen in
+    let log : List Listing = b.own.seen in
     other_moves words views seat b id v (after_front v (slice_index words 0)) k at (pass_no_baton v kind) (pass_no_baton v kind) (
       record {
         begins = longest_begins words log v.own.seen v.notes old.0.begins old.1;
@@ -33,6 +33,7 @@ front_kept words views seat b id v k at kind =
       },
       old.1,
     )
+    (k.last id v at)
     (λ n. refl) (λ n. refl) (λ n. refl)
 
 -- where the permit of a pass is at home, its calls are all entries that it owns
@@ -108,7 +109,7 @@ covers_all : (words : List ℕ) (views : List View) (id : ℕ) (b : View) (ms : 
 covers_all words views id b [] k h = tt
 covers_all words views id b (m ∷ ms) k h = ((h.0.begins, h.0.found, of_look m.seen m.last h.0.look), covers_all words views id b ms k h.1)
   where
-    of_look : (seen : List Entry) (o : Option Look) → LookFits words seen o → CoversLook b o
+    of_look : (seen : List Listing) (o : Option Look) → LookFits words seen o → CoversLook b o
     of_look seen None f = tt
     of_look seen (Some l) f = subst (λ n. l.number ≤ n) (k.versions l.cell f.0.0 f.0.1) f.3
 

@@ -1,17 +1,18 @@
 -- A seat that takes a copy in keeps the rule.
-use Rattle.std.proofs.Common.{◌≡◌, ◌≢◌, ◌<◌, ◌≤◌, ◌+◌, ◌^◌, ◌&&◌, ℕ, List, length, set, Bool, true, false, cond, refl, sym, ap, ◌∙◌, subst, arith, Option, Some, None, add-zero, eq-eqb}
+use Rattle.std.proofs.Common.{◌≡◌, ◌≢◌, ◌≤◌, ◌+◌, ◌&&◌, ℕ, List, length, set, Bool, true, false, cond, refl, sym, ap, ◌∙◌, subst, arith, Option, Some, None, add-zero, eq-eqb}
 use Rattle.std.specs.Prelude.{nat_lt, ◌==◌}
 use Rattle.atomic_table.proofs.Lists.{set_here, set_else}
 use Rattle.atomic_table.specs.Table.{Joins}
-use Rattle.version_cells.specs.declared.entry.Entry.{Entry}
+use Rattle.version_cells.specs.declared.cells.TheConstants.{MOST_ENTRIES}
+use Rattle.version_cells.specs.declared.listing.Listing.{Listing}
 use Rattle.version_cells.specs.declared.view.Memory.{Memory}
 use Rattle.version_cells.specs.declared.view.Permit.{Permit}
 use Rattle.version_cells.specs.declared.view.Kind.TheVariants.{Baton, Pass, Copy, Spent}
 use Rattle.version_cells.specs.declared.view.View.{View}
-use Rattle.version_cells.specs.Entries.{one, has, turns, total, owned}
+use Rattle.version_cells.specs.Listings.{one, has, turns, total, owned}
 use Rattle.version_cells.specs.Views.{is_pass, is_pass_of, is_permit_of, uses_of, copy_with, spent_view, memories, At}
 use Rattle.version_cells.specs.Moves.{either_permit, MayTake, IsOwn, baton_with_copy, pass_with_copy}
-use Rattle.version_cells.specs.Held.{AllFit}
+use Rattle.version_cells.specs.Held.{AllFit, RemembersLast}
 use Rattle.version_cells.specs.Rule.{RuleAt, pass_count, permit_count, entry_count}
 use Rattle.version_cells.proofs.Sums.{total-set, total_at, each_set}
 use Rattle.version_cells.proofs.Keeping.{at_length, seated, other_there}
@@ -37,11 +38,12 @@ module _ (words : List ℕ) (views : List View) (id other : ℕ) (v w x : View) 
 
   pass_joined : (seat : ℕ) (b : View) → RuleAt words views seat b → ¬ (other ≡ id) → v.kind ≢ Baton
       → x.kind ≢ Baton → w.kind ≢ Baton → AllFit words b.own.seen (memories x)
+      → RemembersLast x
       → ((n : ℕ) → pass_count n x ≡ pass_count n v + pass_count n w)
       → ((n : ℕ) → permit_count n x ≡ permit_count n v + permit_count n w)
       → ((n : ℕ) → entry_count n x ≡ entry_count n v + entry_count n w)
       → RuleAt words (set (set views id x) other spent_view) seat b
-  pass_joined seat b k apart vk xk wk fit passes_fit permits_fit entries_fit = record {
+  pass_joined seat b k apart vk xk wk fit last passes_fit permits_fit entries_fit = record {
     at_seat = other_there (set views id x) seat b other w spent_view (other_there views seat b id v x k.at_seat at vk k.is_baton) there wk k.is_baton;
     is_baton = k.is_baton;
     only = each_set (λ by (u : View). u.kind ≡ Baton → by ≡ seat) (set views id x) other spent_view
@@ -52,6 +54,8 @@ module _ (words : List ℕ) (views : List View) (id other : ℕ) (v w x : View) 
     versions = k.versions;
     remembered = each_set (λ by (u : View). AllFit words b.own.seen (memories u)) (set views id x) other spent_view
         (each_set (λ by (u : View). AllFit words b.own.seen (memories u)) views id x k.remembered fit) (blank_fits words b.own.seen, tt);
+    last = each_set (λ by (u : View). RemembersLast u) (set views id x) other spent_view
+        (each_set (λ by (u : View). RemembersLast u) views id x k.last last) (λ e. let h : Spent ≡ Pass = e in cc);
     passes = λ n. joined (pass_count n) (k.passes n) refl (passes_fit n);
     permits = λ n. joined (permit_count n) (k.permits n) refl (permits_fit n);
     entries = λ n. joined (entry_count n) (k.entries n) refl (entries_fit n);
@@ -70,15 +74,18 @@ module _ (words : List ℕ) (views : List View) (id other : ℕ) (v w x : View) 
     only = each_set (λ by (u : View). u.kind ≡ Baton → by ≡ id) (set views id x) other spent_view
         (each_set (λ by (u : View). u.kind ≡ Baton → by ≡ id) views id x k.only (λ e. refl)) (λ e. let h : Spent ≡ Baton = e in cc);
     size = k.size;
-    room = subst (λ (l : List Entry). length l < 2 ^ 63) (sym seen) k.room;
-    counted = k.counted ∙ ap (λ (l : List Entry). length l) (sym seen);
-    versions = λ c low high. k.versions c low high ∙ ap (λ (l : List Entry). turns c l + one (has c v.pending)) (sym seen) ∙ ap (λ (l : List ℕ). turns c x.own.seen + one (has c l)) (sym pend);
-    remembered = subst (λ (l : List Entry). (by : ℕ) (u : View) → At (set (set views id x) other spent_view) by u → AllFit words l (memories u)) (sym seen)
+    room = subst (λ (l : List Listing). length l ≤ MOST_ENTRIES) (sym seen) k.room;
+    counted = k.counted ∙ ap (λ (l : List Listing). length l) (sym seen);
+    versions = λ c low high. k.versions c low high ∙ ap (λ (l : List Listing). turns c l + one (has c v.pending)) (sym seen) ∙ ap (λ (l : List ℕ). turns c x.own.seen + one (has c l)) (sym pend);
+    remembered = subst (λ (l : List Listing). (by : ℕ) (u : View) → At (set (set views id x) other spent_view) by u → AllFit words l (memories u)) (sym seen)
         (each_set (λ by (u : View). AllFit words v.own.seen (memories u)) (set views id x) other spent_view
         (each_set (λ by (u : View). AllFit words v.own.seen (memories u)) views id x k.remembered fit) (blank_fits words v.own.seen, tt));
+    last = each_set (λ by (u : View). RemembersLast u) (set views id x) other spent_view
+        (each_set (λ by (u : View). RemembersLast u) views id x k.last (λ e. let h : Baton ≡ Pass = sym xk ∙ e in cc))
+        (λ e. let h : Spent ≡ Pass = e in cc);
     passes = λ n. joined (pass_count n) (k.passes n) refl (passes_fit n) ∙ ap (λ m. one (nat_lt n m)) (sym next);
     permits = λ n. joined (permit_count n) (k.permits n) refl (permits_fit n) ∙ ap (λ m. one (nat_lt n m)) (sym next);
-    entries = λ n. joined (entry_count n) (k.entries n) refl (entries_fit n) ∙ ap (λ (l : List Entry). owned n l) (sym seen);
+    entries = λ n. joined (entry_count n) (k.entries n) refl (entries_fit n) ∙ ap (λ (l : List Listing). owned n l) (sym seen);
   }
 
 copy_no_baton : (m : Memory) (p : Option Permit) → (copy_with m p).kind ≢ Baton
@@ -175,7 +182,8 @@ pass_takes id other v m None kind own s r at apart there =
     let his = k.remembered other w (other_at s.views id other w x apart there) in (
       r.0,
       r.1,
-      pass_joined s.words s.views id other v w x at there r.0 r.1 k apart (pass_no_baton v kind) (pass_no_baton v kind) (copy_no_baton m None) (old.0, (his.0, old.1))
+      pass_joined s.words s.views id other v w x at there r.0 r.1 k apart (pass_no_baton v kind) (pass_no_baton v kind)
+          (copy_no_baton m None) (old.0, (his.0, old.1)) (k.last id v at)
           (λ n. sym (add-zero _))
           (λ n. sym (add-zero _))
           (λ n. ap (λ c. cond (is_pass_of n v) c 0 + cond (is_permit_of n v.permit) (uses_of v.permit) 0) (add-zero v.calls) ∙ sym (add-zero _)),
@@ -189,7 +197,8 @@ pass_takes id other v m (Some p) kind own s r at apart there =
     let same : (n : ℕ) → is_pass_of n v ≡ (p.number == n) = λ n. ap (λ t. is_pass t && (v.number == n)) kind ∙ ap (λ t. t == n) (sym own) in (
       r.0,
       r.1,
-      pass_joined s.words s.views id other v w x at there r.0 r.1 k apart (pass_no_baton v kind) (pass_no_baton v kind) (copy_no_baton m (Some p)) (old.0, (his.0, old.1))
+      pass_joined s.words s.views id other v w x at there r.0 r.1 k apart (pass_no_baton v kind) (pass_no_baton v kind)
+          (copy_no_baton m (Some p)) (old.0, (his.0, old.1)) (k.last id v at)
           (λ n. sym (add-zero _))
           (λ n. home_sum (pass_count n v) (one (is_permit_of n v.permit))
           ∙ ap (λ t. 0 + one (is_permit_of n v.permit) + (0 + one t)) (same n)

@@ -1,14 +1,15 @@
 -- The rule after one view changed.
-use Rattle.std.proofs.Common.{◌≡◌, ◌≢◌, ◌<◌, ◌≤◌, ◌+◌, ◌^◌, ℕ, zero, suc, List, [], ◌∷◌, length, set, refl, sym, ap, ◌∙◌, subst, arith}
+use Rattle.std.proofs.Common.{◌≡◌, ◌≢◌, ◌<◌, ◌≤◌, ◌+◌, ℕ, zero, suc, List, [], ◌∷◌, length, set, refl, sym, ap, ◌∙◌, subst, arith}
 use Rattle.std.specs.Prelude.{slice_index, nat_lt}
 use mathlib.Core.Option.{some, some-injective}
 use lib.ListN.{get_elem?}
 use Rattle.atomic_table.proofs.Lists.{set_here, set_else}
-use Rattle.version_cells.specs.declared.view.Kind.TheVariants.{Baton}
+use Rattle.version_cells.specs.declared.cells.TheConstants.{CELLS, WORDS, MOST_ENTRIES}
+use Rattle.version_cells.specs.declared.view.Kind.TheVariants.{Baton, Pass}
 use Rattle.version_cells.specs.declared.view.View.{View}
-use Rattle.version_cells.specs.Entries.{one, has, turns, owned, StartsWith}
+use Rattle.version_cells.specs.Listings.{one, has, turns, owned, StartsWith}
 use Rattle.version_cells.specs.Views.{memories, At}
-use Rattle.version_cells.specs.Held.{AllFit}
+use Rattle.version_cells.specs.Held.{AllFit, RemembersLast}
 use Rattle.version_cells.specs.Rule.{RuleAt, Rule, pass_count, permit_count, entry_count}
 use Rattle.version_cells.proofs.Sums.{total-set, each_set, balance}
 use Rattle.version_cells.proofs.Prefixes.{all_grow}
@@ -31,9 +32,9 @@ seated words views r id v at kind =
 -- the baton's view changed, and maybe the words
 pub baton_moves : (words words' : List ℕ) (views : List View) (id : ℕ) (v w : View)
     → RuleAt words views id v
-    → w.kind ≡ Baton → length words' ≡ 4097 → length w.own.seen < 2 ^ 63
+    → w.kind ≡ Baton → length words' ≡ WORDS → length w.own.seen ≤ MOST_ENTRIES
     → slice_index words' 0 ≡ length w.own.seen
-    → ((c : ℕ) → 0 < c → c ≤ 4096 → slice_index words' c ≡ turns c w.own.seen + one (has c w.pending))
+    → ((c : ℕ) → 0 < c → c ≤ CELLS → slice_index words' c ≡ turns c w.own.seen + one (has c w.pending))
     → StartsWith w.own.seen v.own.seen → ((i : ℕ) → slice_index words i ≤ slice_index words' i)
     → AllFit words' w.own.seen (memories w) → w.next ≡ v.next
     → ((n : ℕ) → pass_count n w ≡ pass_count n v) → ((n : ℕ) → permit_count n w ≡ permit_count n v)
@@ -49,6 +50,8 @@ baton_moves words words' views id v w k kind size room counted versions grows up
   versions = versions;
   remembered = each_set (λ by (u : View). AllFit words' w.own.seen (memories u)) views id w
       (λ by u at. all_grow words words' v.own.seen w.own.seen (memories u) grows up (k.remembered by u at)) fit;
+  last = each_set (λ by (u : View). RemembersLast u) views id w k.last
+      (λ e. let h : Baton ≡ Pass = sym kind ∙ e in cc);
   passes = λ n. balance _ _ _ _ _ _ (total-set (pass_count n) views id v w k.at_seat) (k.passes n)
       (ap (λ x. x + one (nat_lt n v.next)) (passes_fit n) ∙ ap (λ x. pass_count n v + one (nat_lt n x)) (sym next));
   permits = λ n. balance _ _ _ _ _ _ (total-set (permit_count n) views id v w k.at_seat) (k.permits n)
@@ -69,10 +72,11 @@ other_there views seat b id v w there at old kind =
 pub other_moves : (words : List ℕ) (views : List View) (seat : ℕ) (b : View) (id : ℕ) (v w : View)
     → RuleAt words views seat b
     → At views id v → v.kind ≢ Baton → w.kind ≢ Baton → AllFit words b.own.seen (memories w)
+    → RemembersLast w
     → ((n : ℕ) → pass_count n w ≡ pass_count n v) → ((n : ℕ) → permit_count n w ≡ permit_count n v)
     → ((n : ℕ) → entry_count n w ≡ entry_count n v)
     → RuleAt words (set views id w) seat b
-other_moves words views seat b id v w k at old new fit passes_fit permits_fit entries_fit = record {
+other_moves words views seat b id v w k at old new fit last passes_fit permits_fit entries_fit = record {
   at_seat = other_there views seat b id v w k.at_seat at old k.is_baton;
   is_baton = k.is_baton;
   only = each_set (λ by (u : View). u.kind ≡ Baton → by ≡ seat) views id w k.only (λ e. absurd (new e));
@@ -81,6 +85,7 @@ other_moves words views seat b id v w k at old new fit passes_fit permits_fit en
   counted = k.counted;
   versions = k.versions;
   remembered = each_set (λ by (u : View). AllFit words b.own.seen (memories u)) views id w k.remembered fit;
+  last = each_set (λ by (u : View). RemembersLast u) views id w k.last last;
   passes = λ n. level _ _ _ _ _ (total-set (pass_count n) views id v w at) (passes_fit n) (k.passes n);
   permits = λ n. level _ _ _ _ _ (total-set (permit_count n) views id v w at) (permits_fit n) (k.permits n);
   entries = λ n. level _ _ _ _ _ (total-set (entry_count n) views id v w at) (entries_fit n) (k.entries n);

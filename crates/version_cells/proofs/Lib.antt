@@ -1,5 +1,5 @@
-mod Sums
-mod Prefixes
+pub mod Sums
+pub mod Prefixes
 mod Keeping
 mod Steps
 mod Bumping
@@ -12,3 +12,5 @@ mod Meeting
 mod Opening
 mod Points
 mod Reaching
+mod StandardFacts
+mod RefusedWorlds

@@ -3,10 +3,11 @@ use Rattle.std.proofs.Common.{◌≡◌, ◌<◌, ◌≤◌, ◌+◌, ℕ, List,
 use Rattle.std.specs.Prelude.{slice_index}
 use Rattle.std.proofs.lemmas.List.{take_all}
 use Rattle.atomic_table.specs.Table.{Me, Allows, keeps}
-use Rattle.version_cells.specs.declared.entry.Entry.{Entry}
+use Rattle.version_cells.specs.declared.cells.TheConstants.{CELLS}
+use Rattle.version_cells.specs.declared.listing.Listing.{Listing}
 use Rattle.version_cells.specs.declared.view.Kind.TheVariants.{Pass}
 use Rattle.version_cells.specs.declared.view.View.{View}
-use Rattle.version_cells.specs.Entries.{one, has, turns, StartsWith}
+use Rattle.version_cells.specs.Listings.{one, has, turns, StartsWith}
 use Rattle.version_cells.specs.Views.{At}
 use Rattle.version_cells.specs.Moves.{after_look}
 use Rattle.version_cells.specs.Rule.{RuleAt}
@@ -15,8 +16,8 @@ use Rattle.version_cells.proofs.Keeping.{other_moves}
 use Rattle.version_cells.proofs.Steps.{Holding, loaded, pass_no_baton}
 
 -- what the rule says of the turns of a cell in a list that begins the history
-below_word : (words : List ℕ) (views : List View) (seat : ℕ) (b : View) (c : ℕ) (seen : List Entry)
-    → RuleAt words views seat b → 0 < c → c ≤ 4096 → StartsWith b.own.seen seen
+below_word : (words : List ℕ) (views : List View) (seat : ℕ) (b : View) (c : ℕ) (seen : List Listing)
+    → RuleAt words views seat b → 0 < c → c ≤ CELLS → StartsWith b.own.seen seen
     → turns c seen ≤ slice_index words c
 below_word words views seat b c seen k low high s =
     let h : turns c seen ≤ turns c b.own.seen = starts_turns c b.own.seen seen s in
@@ -28,7 +29,7 @@ below_word words views seat b c seen k low high s =
 
 pub look_kept : (words : List ℕ) (views : List View) (seat : ℕ) (b : View) (id : ℕ) (v : View)
     (c : ℕ)
-    → RuleAt words views seat b → At views id v → v.kind ≡ Pass → 0 < c → c ≤ 4096
+    → RuleAt words views seat b → At views id v → v.kind ≡ Pass → 0 < c → c ≤ CELLS
     → RuleAt words (set views id (after_look v c (slice_index words c))) seat b
 look_kept words views seat b id v c k at kind low high =
     let old = k.remembered id v at in
@@ -38,14 +39,15 @@ look_kept words views seat b id v c k at kind low high =
       record {
         begins = old.0.begins;
         found = old.0.found;
-        look = ((low, high), omega arith, subst (λ (l : List Entry). turns c l ≤ slice_index words c) (sym all) found, omega arith);
+        look = ((low, high), omega arith, subst (λ (l : List Listing). turns c l ≤ slice_index words c) (sym all) found, omega arith);
       },
       old.1,
     )
+    (λ _. (v.looks, refl))
     (λ n. refl) (λ n. refl) (λ n. refl)
 
 pub looks : (slots id : ℕ) (me : Me ℕ View) (c : ℕ) → me.0.kind ≡ Pass → me.1 ≡ [] → 0 < c
-    → c ≤ 4096
+    → c ≤ CELLS
     → Allows {S = ℕ} {V = View} Holding slots id me c (λ n. n) (λ n after. (after ≡ (after_look me.0 c n, [])) × (turns c me.0.own.seen ≤ n))
 looks slots id me c kind clean low high s r homes at fits =
     let k = r.2 in let n : ℕ = slice_index s.words c in (

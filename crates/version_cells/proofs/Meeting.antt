@@ -2,12 +2,12 @@
 use Rattle.std.proofs.Common.{◌≡◌, ◌≤◌, ◌+◌, ℕ, List, [], ◌∷◌, ◌++◌, length, Bool, false, refl, sym, ap, ◌∙◌, subst, arith, Option, Some, None, length-append, append-nil}
 use Rattle.std.proofs.lemmas.List.{nil_from_length}
 use Rattle.atomic_table.specs.Table.{Me, Joins}
-use Rattle.version_cells.specs.declared.entry.Entry.{Entry}
+use Rattle.version_cells.specs.declared.listing.Listing.{Listing}
 use Rattle.version_cells.specs.declared.view.Memory.{Memory}
 use Rattle.version_cells.specs.declared.view.Permit.{Permit}
 use Rattle.version_cells.specs.declared.view.Kind.TheVariants.{Baton, Pass}
 use Rattle.version_cells.specs.declared.view.View.{View}
-use Rattle.version_cells.specs.Entries.{StartsWith, owned}
+use Rattle.version_cells.specs.Listings.{StartsWith, owned}
 use Rattle.version_cells.specs.Views.{copy_with, spent_view, uses_of}
 use Rattle.version_cells.specs.Moves.{without_permit, baton_copy_with_permit, pass_copy, baton_with_copy, pass_with_copy, after_front, longer, longest, MayTake, IsOwn, is_away_after}
 use Rattle.version_cells.specs.Told.{pass_after_meet, baton_after_meet, Covers, CoversAll, FrontTells, ComesHome, Met}
@@ -37,23 +37,23 @@ comes_home : (n : ℕ) (away : Bool) (p : Option Permit) → ComesHome n away p
 comes_home n away None h = h
 comes_home n away (Some p) h = refl
 
-longest_keeps : (seen : List Entry) (ms : List Memory) → length seen ≤ length (longest seen ms)
+longest_keeps : (seen : List Listing) (ms : List Memory) → length seen ≤ length (longest seen ms)
 longest_keeps seen [] = omega arith
 longest_keeps seen (m ∷ ms) = let a = longer_keeps seen m.seen in let b = longest_keeps (longer seen m.seen) ms in omega arith
 
-longest_covers : (seen : List Entry) (m : Memory) (ms : List Memory)
+longest_covers : (seen : List Listing) (m : Memory) (ms : List Memory)
     → length m.seen ≤ length (longest seen (m ∷ ms))
 longest_covers seen m ms = let a = longer_covers seen m.seen in let b = longest_keeps (longer seen m.seen) ms in omega arith
 
 -- a list that begins another as long as it is that list
-whole : (a b : List Entry) → StartsWith a b → length a ≤ length b → a ≡ b
+whole : (a b : List Listing) → StartsWith a b → length a ≤ length b → a ≡ b
 whole a b s h =
     let e = ap length s.1 ∙ length-append b s.0 in
     let none : s.0 ≡ [] = nil_from_length s.0 (omega arith) in
-    s.1 ∙ ap (λ (l : List Entry). b ++ l) none ∙ append-nil b
+    s.1 ∙ ap (λ (l : List Listing). b ++ l) none ∙ append-nil b
 
 -- the pass after the copy came in and the front step, with what it has seen and found, and whether its permit is away
-abbrev with_memory : View → View → List Entry → ℕ → Bool → View
+abbrev with_memory : View → View → List Listing → ℕ → Bool → View
 with_memory p b seen found away = record p {
   own = record { seen = seen; last = p.own.last; found = found };
   notes = (baton_copy_with_permit b).own ∷ p.notes;
@@ -74,22 +74,22 @@ plain : (p b : View) (found : ℕ) → ComesHome p.number p.away b.permit
     → Covers b (after_front (pass_with_copy p (baton_copy_with_permit b)) found).own
     → (after_front (pass_with_copy p (baton_copy_with_permit b)) found ≡ pass_after_meet p b) × Met p b
 plain p b found home f r =
-    let seen : List Entry = longest p.own.seen ((baton_copy_with_permit b).own ∷ p.notes) in
+    let seen : List Listing = longest p.own.seen ((baton_copy_with_permit b).own ∷ p.notes) in
     let covers : length b.own.seen ≤ length seen = longest_covers p.own.seen (baton_copy_with_permit b).own p.notes in
     let same : b.own.seen ≡ seen = whole b.own.seen seen r.0 covers in
-    let lengths : length b.own.seen ≡ length seen = ap (λ (l : List Entry). length l) same in
+    let lengths : length b.own.seen ≡ length seen = ap (λ (l : List Listing). length l) same in
     let most : found ≤ length b.own.seen = r.1 in
     let all : found ≡ length f.log = f.all in
     let least : length seen ≤ length f.log = starts_length f.log seen f.begins in
     let log : f.log ≡ seen = whole f.log seen f.begins (omega arith) in
     let away : is_away_after p.away b.permit ≡ false = comes_home p.number p.away b.permit home in
     let number : found ≡ length b.own.seen = omega arith in (
-      ap (λ (l : List Entry). with_memory p b l found (is_away_after p.away b.permit)) (sym same)
+      ap (λ (l : List Listing). with_memory p b l found (is_away_after p.away b.permit)) (sym same)
           ∙ ap (λ n. with_memory p b b.own.seen n (is_away_after p.away b.permit)) number
           ∙ ap (λ a. with_memory p b b.own.seen (length b.own.seen) a) away,
       record {
-        begins = subst (λ (l : List Entry). StartsWith l p.own.seen) (sym same) f.extends;
-        owns = ap (λ (l : List Entry). owned p.number l) (same ∙ sym log) ∙ f.calls away;
+        begins = subst (λ (l : List Listing). StartsWith l p.own.seen) (sym same) f.extends;
+        owns = ap (λ (l : List Listing). owned p.number l) (same ∙ sym log) ∙ f.calls away;
         look = r.2;
       },
     )

@@ -4,11 +4,12 @@ use Rattle.std.specs.Prelude.{nat_lt}
 use mathlib.Core.Option.{some-injective, some-ne-none}
 use Rattle.std.proofs.lemmas.List.{get_or-replicate, length-replicate}
 use Rattle.std.proofs.lemmas.Bool.{le-ltb}
-use Rattle.version_cells.specs.declared.view.Kind.TheVariants.{Baton}
+use Rattle.version_cells.specs.declared.cells.TheConstants.{WORDS}
+use Rattle.version_cells.specs.declared.view.Kind.TheVariants.{Baton, Pass}
 use Rattle.version_cells.specs.declared.view.View.{View}
-use Rattle.version_cells.specs.Entries.{one}
+use Rattle.version_cells.specs.Listings.{one}
 use Rattle.version_cells.specs.Views.{first_baton, memories, At}
-use Rattle.version_cells.specs.Held.{AllFit}
+use Rattle.version_cells.specs.Held.{AllFit, RemembersLast}
 use Rattle.version_cells.specs.Rule.{RuleAt, Rule}
 use Rattle.version_cells.proofs.Cuts.{blank_fits}
 
@@ -19,7 +20,7 @@ lone P w h (suc by) v e = absurd (some-ne-none v (sym e))
 none_below : (n : ℕ) → 0 ≡ one (nat_lt n 0)
 none_below n = ap one (sym (le-ltb n 0 (omega arith)))
 
-kept : (n : ℕ) → n ≡ 4097 → RuleAt (replicate n 0) (first_baton ∷ []) 0 first_baton
+kept : (n : ℕ) → n ≡ WORDS → RuleAt (replicate n 0) (first_baton ∷ []) 0 first_baton
 kept n size = record {
   at_seat = refl;
   is_baton = refl;
@@ -29,11 +30,12 @@ kept n size = record {
   counted = get_or-replicate n 0 0 0 (omega arith);
   versions = λ c low high. get_or-replicate n c 0 0 (omega arith);
   remembered = lone (λ by (u : View). AllFit (replicate n 0) [] (memories u)) first_baton (blank_fits (replicate n 0) [], tt);
+  last = lone (λ by (u : View). RemembersLast u) first_baton (λ e. let h : Baton ≡ Pass = e in cc);
   passes = none_below;
   permits = none_below;
   entries = λ m. refl;
 }
 
-pub opened : (words : List ℕ) (n : ℕ) → words ≡ replicate n 0 → n ≡ 4097
+pub opened : (words : List ℕ) (n : ℕ) → words ≡ replicate n 0 → n ≡ WORDS
     → Rule words (first_baton ∷ [])
 opened words n is size = subst (λ (ws : List ℕ). Rule ws (first_baton ∷ [])) (sym is) (0, first_baton, kept n size)

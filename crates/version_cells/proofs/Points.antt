@@ -9,7 +9,7 @@ use Rattle.version_cells.specs.declared.view.Permit.{Permit}
 use Rattle.version_cells.specs.declared.view.Kind.{Kind}
 use Rattle.version_cells.specs.declared.view.Kind.TheVariants.{Baton, Pass, Copy, Spent}
 use Rattle.version_cells.specs.declared.view.View.{View}
-use Rattle.version_cells.specs.Entries.{one, total, owned}
+use Rattle.version_cells.specs.Listings.{one, total, owned}
 use Rattle.version_cells.specs.Views.{is_pass, is_pass_of, is_permit_of, uses_of, spent_view, At}
 use Rattle.version_cells.specs.Held.{IsPassOf, Holds, AtHome, Away, Held}
 use Rattle.version_cells.specs.Rule.{RuleAt, RuleHasSixPoints, pass_count, permit_count, entry_count}
@@ -215,9 +215,11 @@ module _ (words : List ℕ) (views : List View) (seat : ℕ) (b : View) (k : Rul
 
   pub points : Held words views b
   points = record {
+    sized = k.size;
     counted = k.counted;
     versions = k.versions;
     remembered = k.remembered;
+    last = k.last;
     numbers_differ = differ;
     numbers_below = numbers;
     owners_below = owners;

@@ -1,8 +1,9 @@
 -- Each step from one world to the next keeps the rule.
-use Rattle.std.proofs.Common.{◌≡◌, ◌<◌, ◌+◌, ◌^◌, ℕ, List, [], set, refl, sym, ap, ◌∙◌, subst}
+use Rattle.std.proofs.Common.{◌≡◌, ◌≤◌, ◌+◌, ℕ, List, [], set, refl, sym, ap, ◌∙◌, subst}
 use Rattle.std.specs.Prelude.{slice_index}
 use Rattle.atomic_table.proofs.Lists.{set_else}
 use Rattle.atomic_table.specs.Table.{State}
+use Rattle.version_cells.specs.declared.cells.TheConstants.{WORDS, MOST_ENTRIES}
 use Rattle.version_cells.specs.declared.view.View.{View}
 use Rattle.version_cells.specs.Views.{copy_with}
 use Rattle.version_cells.specs.Moves.{after_bump, after_commit, baton_with_copy, pass_with_copy}
@@ -46,12 +47,13 @@ module _ where
       by_word words c _ _ _ id (after_bump v c) (f.1 ∙ ap (λ n. n + 1) (sym f.0)) (bump_kept words views id v c k cell.0 cell.1 free)
   stepped _ _ _ _ (Step.commits words views id v e at kind may) r =
       let k = seated words views r id v at kind in
-      by_word words 0 _ _ _ id (after_commit v e) (counted_up (slice_index words 0) (subst (λ n. n < 2 ^ 63) (sym k.counted) k.room)) (commit_kept words views id v e k may)
+      by_word words 0 _ _ _ id (after_commit v e)
+      (counted_up (slice_index words 0) (subst (λ n. n ≤ MOST_ENTRIES) (sym k.counted) k.room)) (commit_kept words views id v e k may)
   stepped _ _ _ _ (Step.looks words views id v c at kind cell) r = (r.0, r.1, look_kept words views r.0 r.1 id v c r.2 at kind cell.0 cell.1)
 
 ruled : (words : List ℕ) (views : List View) → Reached words views → Rule words views
-ruled _ _ (Reached.start words e) = opened words 4097 e refl
+ruled _ _ (Reached.start words e) = opened words WORDS e refl
 ruled _ _ (Reached.then words views words' views' before step) = stepped words views words' views' step (ruled words views before)
 
 pub words_keep_their_rule : WordsKeepTheirRule
-words_keep_their_rule words views r = rule_has_six_points words views (ruled words views r)
+words_keep_their_rule words views r = let k = ruled words views r in (k, rule_has_six_points words views k)

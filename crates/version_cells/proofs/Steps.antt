@@ -1,7 +1,8 @@
 -- Facts that each step of a word uses.
-use Rattle.std.proofs.Common.{◌≡◌, ◌≢◌, ◌<◌, ◌+◌, ◌%◌, ◌^◌, ℕ, List, set, sym, ◌∙◌, subst, arith}
+use Rattle.std.proofs.Common.{◌≡◌, ◌≢◌, ◌≤◌, ◌+◌, ◌%◌, ◌^◌, ℕ, List, set, sym, ◌∙◌, subst, arith}
 use Rattle.std.specs.Prelude.{slice_index}
 use Rattle.atomic_table.specs.Table.{State}
+use Rattle.version_cells.specs.declared.cells.TheConstants.{MOST_ENTRIES}
 use Rattle.version_cells.specs.declared.view.Kind.TheVariants.{Baton, Pass}
 use Rattle.version_cells.specs.declared.view.View.{View}
 use Rattle.version_cells.specs.Rule.{Rule}
@@ -11,7 +12,7 @@ use Rattle.version_cells.proofs.Sums.{unchanged}
 abbrev pub Holding : State ℕ View → Type 0
 Holding s = Rule s.words s.views
 
-pub counted_up : (n : ℕ) → n < 2 ^ 63 → (n + 1) % 2 ^ 64 ≡ n + 1
+pub counted_up : (n : ℕ) → n ≤ MOST_ENTRIES → (n + 1) % 2 ^ 64 ≡ n + 1
 counted_up n h = omega arith
 
 -- a load writes what it found

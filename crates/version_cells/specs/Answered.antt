@@ -2,18 +2,18 @@
 -- of its calls is answered.
 -- This jar's own rule: docs/DEFINITIONS.md.
 use Rattle.std.specs.Prelude.{◌≡◌, ◌≤◌, ◌+◌, ◌-◌, ◌^◌, ◌⊎◌, ℕ, List, [], length, min, take, Some}
-use Rattle.version_cells.specs.declared.entry.Entry.{Entry}
+use Rattle.version_cells.specs.declared.listing.Listing.{Listing}
 use Rattle.version_cells.specs.declared.view.Kind.TheVariants.{Pass}
 use Rattle.version_cells.specs.declared.view.View.{View}
-use Rattle.version_cells.specs.Entries.{owner_of, owned, EndsWith}
+use Rattle.version_cells.specs.Listings.{owner_of, owned, EndsWith}
 use Rattle.version_cells.specs.Standing.{PassStanding}
 
 -- a history ends with an entry that the pass n owns
-abbrev pub EndsWithOwn : ℕ → List Entry → Type 0
-EndsWithOwn n log = (e : Entry) × EndsWith log e × (owner_of e ≡ Some n)
+abbrev pub EndsWithOwn : ℕ → List Listing → Type 0
+EndsWithOwn n log = (e : Listing) × EndsWith log e × (owner_of e ≡ Some n)
 
 -- a front of the pass n is empty, or ends with an entry that the pass owns
-abbrev pub IsFront : ℕ → List Entry → Type 0
+abbrev pub IsFront : ℕ → List Listing → Type 0
 IsFront n front = (front ≡ []) ⊎ EndsWithOwn n front
 
 -- What always holds of a pass with this view and these numbers of its own

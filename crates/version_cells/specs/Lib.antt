@@ -1,4 +1,4 @@
-pub mod Entries
+pub mod Listings
 pub mod Views
 pub mod Moves
 pub mod Reached

@@ -1,12 +1,13 @@
 -- The table of steps: what each makes of a view, and when a step is allowed.
 -- This jar's own rule: docs/DEFINITIONS.md.
-use Rattle.std.specs.Prelude.{◌≡◌, ◌<◌, ◌+◌, ◌-◌, ◌^◌, ℕ, List, [], ◌∷◌, ◌++◌, length, Bool, true, false, cond, Option, Some, None, nat_lt}
-use Rattle.version_cells.specs.declared.entry.Entry.{Entry}
+use Rattle.std.specs.Prelude.{◌≡◌, ◌<◌, ◌+◌, ℕ, List, [], ◌∷◌, ◌++◌, length, Bool, true, false, cond, Option, Some, None, nat_lt}
+use Rattle.version_cells.specs.declared.cells.TheConstants.{MOST_ENTRIES}
+use Rattle.version_cells.specs.declared.listing.Listing.{Listing}
 use Rattle.version_cells.specs.declared.view.Look.{Look}
 use Rattle.version_cells.specs.declared.view.Memory.{Memory}
 use Rattle.version_cells.specs.declared.view.Permit.{Permit}
 use Rattle.version_cells.specs.declared.view.View.{View}
-use Rattle.version_cells.specs.Entries.{has, IsDistinct, cells_of, owner_of}
+use Rattle.version_cells.specs.Listings.{has, IsDistinct, cells_of, owner_of}
 use Rattle.version_cells.specs.Views.{copy_with, uses_of}
 
 -- Split: the baton, once it made a pass of the next number
@@ -79,11 +80,11 @@ pass_with_copy v w = record v {
 }
 
 -- the longer of two lists, the first where both have the same length
-abbrev pub longer : List Entry → List Entry → List Entry
+abbrev pub longer : List Listing → List Listing → List Listing
 longer a b = cond (nat_lt (length a) (length b)) b a
 
 -- the longest of what was seen and what the notes have seen
-abbrev pub longest : List Entry → List Memory → List Entry
+abbrev pub longest : List Listing → List Memory → List Listing
 longest seen [] = seen
 longest seen (m ∷ ms) = longest (longer seen m.seen) ms
 
@@ -105,11 +106,11 @@ IsAllowed (Some n) None = ⊥
 IsAllowed (Some n) (Some p) = p.number ≡ n
 
 -- Commit is allowed where the pending cells are just those of the entry, none twice, its owner is
--- the number of the baton's permit, and fewer than 2^63 - 1 entries stand
-abbrev pub MayCommit : View → Entry → Type 0
+-- the number of the baton's permit, and fewer entries stand than may be committed
+abbrev pub MayCommit : View → Listing → Type 0
 MayCommit v e =
     ((c : ℕ) → has c v.pending ≡ has c (cells_of e)) × IsDistinct (cells_of e)
-    × IsAllowed (owner_of e) v.permit × (length v.own.seen < 2 ^ 63 - 1)
+    × IsAllowed (owner_of e) v.permit × (length v.own.seen < MOST_ENTRIES)
 
 -- one use more, where the entry has an owner
 abbrev pub permit_after : Option ℕ → Option Permit → Option Permit
@@ -118,7 +119,7 @@ permit_after (Some n) None = None
 permit_after (Some n) (Some p) = Some (record p { uses = p.uses + 1 })
 
 -- the baton, once the entry is committed
-abbrev pub after_commit : View → Entry → View
+abbrev pub after_commit : View → Listing → View
 after_commit v e = record v {
   own = record v.own { seen = v.own.seen ++ e ∷ [] };
   pending = [];

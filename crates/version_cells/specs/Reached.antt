@@ -1,15 +1,17 @@
 -- Worlds: the words and views that lists of steps lead to from the start.
 -- This jar's own rule: docs/DEFINITIONS.md.
 use Rattle.std.specs.Prelude.{◌≡◌, ◌≢◌, ◌+◌, ℕ, List, [], ◌∷◌, ◌++◌, replicate, false, Option, slice_index, slice_set}
-use Rattle.version_cells.specs.declared.entry.Entry.{Entry}
+use Rattle.version_cells.specs.declared.cells.TheConstants.{WORDS}
+use Rattle.version_cells.specs.declared.listing.Listing.{Listing}
 use Rattle.version_cells.specs.declared.view.Memory.{Memory}
 use Rattle.version_cells.specs.declared.view.Permit.{Permit}
 use Rattle.version_cells.specs.declared.view.Kind.TheVariants.{Baton, Pass}
 use Rattle.version_cells.specs.declared.view.View.{View}
-use Rattle.version_cells.specs.Entries.{has, IsCell}
+use Rattle.version_cells.specs.Listings.{has, IsCell}
 use Rattle.version_cells.specs.Views.{At, first_baton, new_pass, copy_with, spent_view}
 use Rattle.version_cells.specs.Moves.{after_new_pass, without_permit, baton_copy_with_permit, baton_copy, pass_copy, after_lending, pass_copy_with_permit, baton_with_copy, pass_with_copy, MayTake, IsOwn, after_bump, MayCommit, after_commit, after_look, after_front}
 use Rattle.version_cells.specs.Held.{HasSixPoints}
+use Rattle.version_cells.specs.Rule.{Rule}
 
 -- the views, once the view at a seat was cut in two
 abbrev pub cut : List View → ℕ → View → View → List View
@@ -52,20 +54,22 @@ pub data Step : List ℕ → List View → List ℕ → List View → Type 0 whe
   bumps : (words : List ℕ) (views : List View) (id : ℕ) (v : View) (c : ℕ)
       → At views id v → v.kind ≡ Baton → IsCell c → has c v.pending ≡ false
       → Step words views (one_more words c) (slice_set views id (after_bump v c))
-  commits : (words : List ℕ) (views : List View) (id : ℕ) (v : View) (e : Entry)
+  commits : (words : List ℕ) (views : List View) (id : ℕ) (v : View) (e : Listing)
       → At views id v → v.kind ≡ Baton → MayCommit v e
       → Step words views (one_more words 0) (slice_set views id (after_commit v e))
   looks : (words : List ℕ) (views : List View) (id : ℕ) (v : View) (c : ℕ)
       → At views id v → v.kind ≡ Pass → IsCell c
       → Step words views words (slice_set views id (after_look v c (slice_index words c)))
 
--- The worlds that any list of steps reaches, from 4,097 words of 0 and the baton alone
+-- The worlds that any list of steps reaches, from words of 0 and the baton alone
 pub data Reached : List ℕ → List View → Type 0 where
-  start : (words : List ℕ) → words ≡ replicate 4097 0 → Reached words (first_baton ∷ [])
+  start : (words : List ℕ) → words ≡ replicate WORDS 0 → Reached words (first_baton ∷ [])
   then : (words : List ℕ) (views : List View) (words' : List ℕ) (views' : List View)
       → Reached words views → Step words views words' views' → Reached words' views'
 
--- The words keep their rule: in every world that any list of the steps reaches, the six points hold
+-- The words keep their rule: in every world that any list of the steps reaches, the table's rule
+-- and the six points hold
 abbrev pub WordsKeepTheirRule : Type 0
 WordsKeepTheirRule =
-    (words : List ℕ) (views : List View) → Reached words views → HasSixPoints words views
+    (words : List ℕ) (views : List View) → Reached words views
+    → Rule words views × HasSixPoints words views

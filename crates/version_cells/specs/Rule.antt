@@ -1,11 +1,12 @@
 -- The rule of the table: the six points, the last two as sums over all views, which steps keep.
 -- This jar's own rule: docs/DEFINITIONS.md.
-use Rattle.std.specs.Prelude.{◌≡◌, ◌<◌, ◌≤◌, ◌+◌, ◌^◌, ℕ, List, length, cond, slice_index, nat_lt}
+use Rattle.std.specs.Prelude.{◌≡◌, ◌<◌, ◌≤◌, ◌+◌, ℕ, List, length, cond, slice_index, nat_lt}
+use Rattle.version_cells.specs.declared.cells.TheConstants.{CELLS, WORDS, MOST_ENTRIES}
 use Rattle.version_cells.specs.declared.view.Kind.TheVariants.{Baton}
 use Rattle.version_cells.specs.declared.view.View.{View}
-use Rattle.version_cells.specs.Entries.{one, total, has, turns, owned}
+use Rattle.version_cells.specs.Listings.{one, total, has, turns, owned}
 use Rattle.version_cells.specs.Views.{At, memories, is_pass_of, is_permit_of, uses_of}
-use Rattle.version_cells.specs.Held.{AllFit, HasSixPoints}
+use Rattle.version_cells.specs.Held.{AllFit, RemembersLast, HasSixPoints}
 
 -- 1 for the view of the pass n
 abbrev pub pass_count : ℕ → View → ℕ
@@ -25,12 +26,13 @@ pub record RuleAt (words : List ℕ) (views : List View) (seat : ℕ) (baton : V
   pub at_seat : At views seat baton
   pub is_baton : baton.kind ≡ Baton
   pub only : (by : ℕ) (v : View) → At views by v → v.kind ≡ Baton → by ≡ seat
-  pub size : length words ≡ 4097
-  pub room : length baton.own.seen < 2 ^ 63
+  pub size : length words ≡ WORDS
+  pub room : length baton.own.seen ≤ MOST_ENTRIES
   pub counted : slice_index words 0 ≡ length baton.own.seen
-  pub versions : (c : ℕ) → 0 < c → c ≤ 4096
+  pub versions : (c : ℕ) → 0 < c → c ≤ CELLS
       → slice_index words c ≡ turns c baton.own.seen + one (has c baton.pending)
   pub remembered : (by : ℕ) (v : View) → At views by v → AllFit words baton.own.seen (memories v)
+  pub last : (by : ℕ) (v : View) → At views by v → RemembersLast v
   pub passes : (n : ℕ) → total (pass_count n) views ≡ one (nat_lt n baton.next)
   pub permits : (n : ℕ) → total (permit_count n) views ≡ one (nat_lt n baton.next)
   pub entries : (n : ℕ) → total (entry_count n) views ≡ owned n baton.own.seen

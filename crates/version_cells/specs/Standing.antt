@@ -2,7 +2,8 @@
 -- This jar's own rule: docs/DEFINITIONS.md.
 use Rattle.std.specs.Prelude.{ℕ, zero, suc, List, [], ◌∷◌, ◌++◌, Option}
 use Rattle.atomic_table.specs.Seated.{TableId}
-use Rattle.version_cells.specs.declared.entry.Entry.{Entry}
+use Rattle.jar_types.specs.declared.entry.Entry.{Entry}
+use Rattle.version_cells.specs.declared.listing.Listing.{Listing}
 use Rattle.version_cells.specs.declared.view.View.{View}
 use Rattle.version_cells.specs.Views.{first_baton, new_pass}
 use Rattle.version_cells.specs.Moves.{after_commit}
@@ -17,8 +18,8 @@ abbrev pub baton_with_view : BatonStanding → View → BatonStanding
 baton_with_view s v = record s { view = v }
 
 -- the baton, once it committed this entry
-abbrev pub baton_with_entry : BatonStanding → Entry → BatonStanding
-baton_with_entry s e = baton_with_view s (after_commit s.view e)
+abbrev pub baton_with_listing : BatonStanding → Listing → BatonStanding
+baton_with_listing s e = baton_with_view s (after_commit s.view e)
 
 -- the baton, once so many passes were made
 abbrev pub new_baton : TableId → ℕ → BatonStanding
@@ -29,7 +30,7 @@ new_baton t n = record { table = t; view = record first_baton { next = n } }
 pub record PassStanding : Type 0 where
   pub table : TableId
   pub view : View
-  pub front : List Entry
+  pub front : List Listing
 
 -- the pass with another view, and the front that it had
 abbrev pub pass_with_view : PassStanding → View → PassStanding
@@ -48,6 +49,6 @@ abbrev pub new_passes : TableId → ℕ → List PassStanding
 new_passes t zero = []
 new_passes t (suc n) = new_passes t n ++ new_pass_standing t n ∷ []
 
--- the entry that a commit names by its cells and its owner
-abbrev pub entry_of : List ℕ → Option ℕ → Entry
-entry_of cells owner = record { cells = cells; owner = owner }
+-- what a commit adds to the history, by its cells, its owner and its entry
+abbrev pub listing_of : List ℕ → Option ℕ → Entry → Listing
+listing_of cells owner entry = record { cells = cells; owner = owner; about = entry }

@@ -1,7 +1,7 @@
 //! Making a cell pending.
 
 ghost use Rattle.std.specs.Prelude.{◌≡◌, false};
-ghost use Rattle.version_cells.specs.Entries.{has, IsCell};
+ghost use Rattle.version_cells.specs.Listings.{has, IsCell};
 ghost use Rattle.version_cells.specs.Moves.{after_bump};
 ghost use Rattle.version_cells.specs.Standing.{baton_with_view};
 
@@ -10,18 +10,8 @@ use crate::cells::Cells;
 use crate::view::View;
 use atomic_table::Play;
 
-/// The baton adds one to the word of a cell.
-pub struct Bumps;
-
-impl Play<u8, View> for Bumps {
-    ghost use Rattle.std.specs.Prelude.{◌≡◌, []};
-    ghost use Rattle.version_cells.specs.Moves.{after_bump};
-
-    ghost then = { λ s me _ after. after ≡ (after_bump me.0 s.word, []) };
-}
-
 impl Cells {
-    /// Makes a cell of 1 to 4,096 pending, one more in its word, before an entry that moves it.
+    /// Makes a cell pending, one more in its word, before an entry that moves it.
     ///
     /// This jar's own rule: docs/DEFINITIONS.md.
     pub fn bump(&self, baton: &mut Baton, cell: u32)
@@ -34,4 +24,14 @@ impl Cells {
             .shared
             .fetch_add::<Bumps>(&mut baton.seat, cell as usize, 1);
     }
+}
+
+/// The baton adds one to the word of a cell.
+pub struct Bumps;
+
+impl Play<u8, View> for Bumps {
+    ghost use Rattle.std.specs.Prelude.{◌≡◌, []};
+    ghost use Rattle.version_cells.specs.Moves.{after_bump};
+
+    ghost then = { λ s me _ after. after ≡ (after_bump me.0 s.word, []) };
 }

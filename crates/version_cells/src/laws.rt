@@ -11,7 +11,8 @@ pub fn the_rule_has_six_points()
     ensures { RuleHasSixPoints }
 {}
 
-/// The words keep their rule: in every world that any list of steps reaches, the six points hold.
+/// The words keep their rule: in every world that any list of steps reaches, the table's rule and
+/// the six points hold.
 ///
 /// This jar's own rule: docs/DEFINITIONS.md.
 #[tactic(auto, using(crate::proofs::Reaching::words_keep_their_rule))]

@@ -8,7 +8,6 @@ ghost use Rattle.version_cells.specs.Standing.{baton_with_view, pass_with_view};
 use crate::baton::Baton;
 use crate::cells::Cells;
 use crate::copies::PassLends;
-use crate::fronts::BatonCounts;
 use crate::joins::BatonTakes;
 use crate::pass::Pass;
 
@@ -28,6 +27,6 @@ impl Cells {
         self.table
             .shared
             .join_seat::<BatonTakes>(&mut baton.seat, copy);
-        self.table.shared.load::<BatonCounts>(&mut baton.seat, 0);
+        self.count(baton);
     }
 }

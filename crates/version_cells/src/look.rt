@@ -1,7 +1,7 @@
 //! Looking at a version.
 
 ghost use Rattle.std.specs.Prelude.{◌≡◌, ◌≤◌};
-ghost use Rattle.version_cells.specs.Entries.{IsCell, turns};
+ghost use Rattle.version_cells.specs.Listings.{IsCell, turns};
 ghost use Rattle.version_cells.specs.Moves.{after_look};
 ghost use Rattle.version_cells.specs.Standing.{pass_with_view};
 
@@ -10,20 +10,8 @@ use crate::pass::Pass;
 use crate::view::View;
 use atomic_table::Play;
 
-/// A pass loads the version of a cell.
-pub struct Looks;
-
-impl Play<u8, View> for Looks {
-    ghost use Rattle.std.specs.Prelude.{◌≡◌, ◌≤◌, []};
-    ghost use Rattle.version_cells.specs.Entries.{turns};
-    ghost use Rattle.version_cells.specs.Moves.{after_look};
-
-    ghost then = { λ s me found after. (after ≡ (after_look me.0 s.word found, []))
-        × (turns s.word me.0.own.seen ≤ found) };
-}
-
 impl Cells {
-    /// Reads the version of a cell of 1 to 4,096, by one load, which the pass notes.
+    /// Reads the version of a cell, by one load, which the pass notes.
     ///
     /// No look goes back: it finds at least the entries that the pass has seen move the cell.
     /// This jar's own rule: docs/DEFINITIONS.md.
@@ -40,4 +28,16 @@ impl Cells {
         pass.looks = pass.looks.saturating_add(1);
         found
     }
+}
+
+/// A pass loads the version of a cell.
+pub struct Looks;
+
+impl Play<u8, View> for Looks {
+    ghost use Rattle.std.specs.Prelude.{◌≡◌, ◌≤◌, []};
+    ghost use Rattle.version_cells.specs.Listings.{turns};
+    ghost use Rattle.version_cells.specs.Moves.{after_look};
+
+    ghost then = { λ s me found after. (after ≡ (after_look me.0 s.word found, []))
+        × (turns s.word me.0.own.seen ≤ found) };
 }

@@ -25,27 +25,6 @@ pub struct Made {
     pub passes: Vec<Pass>,
 }
 
-/// The baton makes the pass of the next number.
-pub struct MakesPass;
-
-impl Split<View> for MakesPass {
-    ghost use Rattle.version_cells.specs.Views.{new_pass};
-    ghost use Rattle.version_cells.specs.Moves.{after_new_pass};
-
-    ghost left = { after_new_pass };
-
-    ghost right = { λ v. new_pass v.next };
-}
-
-// The words, all 0, and the baton.
-fn open(alloc: Global) -> Result<(Cells, Baton), AllocError>
-    ensures { IfOk result (λ m. m.1 ≡ new_baton m.0 0) }
-{
-    let words = vec![in alloc; 0u64; WORDS]?;
-    let (table, seat) = Table::of_words(alloc, words.as_slice(), &())?;
-    Ok((Cells { table }, Baton { seat }))
-}
-
 impl Cells {
     /// Makes the words, all 0, the baton, a pass for each caller and the cutter's pass.
     ///
@@ -66,6 +45,7 @@ impl Cells {
         })
     }
 
+    /// The passes of the callers, numbered in order.
     fn add_passes(
         &self,
         alloc: Global,
@@ -84,6 +64,7 @@ impl Cells {
         Ok(passes)
     }
 
+    /// The pass of the next number.
     fn add_pass(&self, baton: &mut Baton, number: u32) -> Pass
         requires same { baton.old.table ≡ self.now }
         requires next { baton.old.view.next ≡ number }
@@ -99,4 +80,25 @@ impl Cells {
             front: 0,
         }
     }
+}
+
+/// The words, all 0, and the baton, which has made no pass.
+fn open(alloc: Global) -> Result<(Cells, Baton), AllocError>
+    ensures { IfOk result (λ m. m.1 ≡ new_baton m.0 0) }
+{
+    let words = vec![in alloc; 0u64; WORDS]?;
+    let (table, seat) = Table::of_words(alloc, words.as_slice(), &())?;
+    Ok((Cells { table }, Baton { seat }))
+}
+
+/// The baton makes the pass of the next number.
+pub struct MakesPass;
+
+impl Split<View> for MakesPass {
+    ghost use Rattle.version_cells.specs.Views.{new_pass};
+    ghost use Rattle.version_cells.specs.Moves.{after_new_pass};
+
+    ghost left = { after_new_pass };
+
+    ghost right = { λ v. new_pass v.next };
 }

@@ -7,13 +7,13 @@ ghost use Rattle.version_cells.specs.Standing.{baton_with_view, pass_with_view};
 use crate::baton::Baton;
 use crate::cells::Cells;
 use crate::copies::{BatonCopies, PassCopies};
-use crate::fronts::{BatonCounts, Fronts};
+use crate::fronts::Fronts;
 use crate::joins::{BatonTakes, PassTakes};
 use crate::pass::Pass;
 
 impl Cells {
-    /// Shows the pass all committed entries, brings its permit home, and has the baton note its last
-    /// look.
+    /// Shows the pass all committed entries, brings its permit home, and has the baton note its
+    /// last look.
     ///
     /// What the meeting tells is the record `Met`. This jar's own rule: docs/DEFINITIONS.md.
     pub fn meet(&self, pass: &mut Pass, baton: &mut Baton)
@@ -35,6 +35,6 @@ impl Cells {
         self.table
             .shared
             .join_seat::<BatonTakes>(&mut baton.seat, note);
-        self.table.shared.load::<BatonCounts>(&mut baton.seat, 0);
+        self.count(baton);
     }
 }

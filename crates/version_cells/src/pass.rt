@@ -1,7 +1,7 @@
 //! The pass of one caller.
 
 ghost use Rattle.std.specs.Prelude.{◌≡◌, ◌-◌, ◌^◌, length, min};
-ghost use Rattle.version_cells.specs.Entries.{StartsWith};
+ghost use Rattle.version_cells.specs.Listings.{StartsWith};
 ghost use Rattle.version_cells.specs.Answered.{IsFront};
 
 use crate::view::View;

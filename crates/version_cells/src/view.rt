@@ -1,11 +1,11 @@
 //! What a seat knows of the words and the history. No value of these types is made.
 
-use crate::entry::Entry;
+use crate::listing::Listing;
 use std::collections::LinkedList;
 
 /// One look at the version of a cell.
 pub struct Look {
-    /// The cell, of 1 to 4,096.
+    /// The cell, from 1 to `CELLS`.
     pub cell: u32,
     /// The number that was read.
     pub number: u64,
@@ -16,7 +16,7 @@ pub struct Look {
 /// What a seat remembers, and what a copy of it takes along.
 pub struct Memory {
     /// The entries that it has seen, which begin the history.
-    pub seen: LinkedList<Entry>,
+    pub seen: LinkedList<Listing>,
     /// The last look of its pass, if there was one.
     pub last: Option<Look>,
     /// How many entries its last front step found.

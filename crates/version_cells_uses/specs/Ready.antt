@@ -1,14 +1,12 @@
 -- When a pass and the baton may serve a call, and what a call leaves.
 -- This jar's own rule: docs/DEFINITIONS.md.
-use Rattle.std.specs.Prelude.{◌≡◌, ◌<◌, ◌-◌, ◌+◌, ◌^◌, ℕ, List, [], ◌∷◌, length, slice_index_or, false, Some, None}
+use Rattle.std.specs.Prelude.{◌≡◌, ◌<◌, ◌+◌, ℕ, List, [], ◌∷◌, length, slice_index_or, false, Some, None}
 use Rattle.atomic_table.specs.Seated.{TableId}
-use Rattle.version_cells.specs.declared.entry.Entry.{Entry}
-use Rattle.version_cells.specs.Entries.{IsCell, owned}
-use Rattle.version_cells.specs.Standing.{BatonStanding, PassStanding, entry_of}
-
--- the identity that stands for no table
-abbrev pub no_table : TableId
-no_table = record { words = 0; slots = 0; views_name = 0; atom = 0; block = 0; offset = 0; slot_names = [] }
+use Rattle.jar_types.specs.declared.entry.Entry.{Entry}
+use Rattle.version_cells.specs.declared.cells.TheConstants.{MOST_ENTRIES}
+use Rattle.version_cells.specs.declared.listing.Listing.{Listing}
+use Rattle.version_cells.specs.Listings.{IsCell, owned}
+use Rattle.version_cells.specs.Standing.{BatonStanding, PassStanding, listing_of}
 
 -- the baton goes to this table, has no pending cell, and holds no permit
 abbrev pub IsFree : TableId → BatonStanding → Type 0
@@ -16,7 +14,7 @@ IsFree t s = (s.table ≡ t) × (s.view.pending ≡ []) × (s.view.permit ≡ No
 
 -- one more entry may be committed
 abbrev pub HasRoom : BatonStanding → Type 0
-HasRoom s = length s.view.own.seen < 2 ^ 63 - 1
+HasRoom s = length s.view.own.seen < MOST_ENTRIES
 
 -- The pass goes to this table, its permit is at home, and each entry of its own that it has seen
 -- counts once among its calls
@@ -52,6 +50,12 @@ abbrev pub HasCalled : PassStanding → PassStanding → Type 0
 HasCalled old new =
     HasCounted old new 1 × HasMetOnce old new × (new.front ≡ new.view.own.seen)
 
--- the entry of a call of the pass that moves this cell
-abbrev pub call_of : PassStanding → ℕ → Entry
-call_of s cell = entry_of (cell ∷ []) (Some s.view.number)
+-- what a call of the pass adds to the history, with an entry that moves this cell
+abbrev pub call_of : PassStanding → ℕ → Entry → Listing
+call_of s cell entry = listing_of (cell ∷ []) (Some s.view.number) entry
+
+-- ---- that no public clause cites
+
+-- the identity that stands for no table
+abbrev pub no_table : TableId
+no_table = record { words = 0; slots = 0; views_name = 0; atom = 0; block = 0; offset = 0; slot_names = [] }

@@ -13,4 +13,4 @@ pub use call::one_call;
 pub use desk::{Desk, Full, LIMIT};
 pub use lent::three_entries;
 pub use name::Name;
-pub use threads::{Called, each_calls, turn};
+pub use threads::{Called, call_and_look, each_calls};

@@ -1,8 +1,10 @@
-//! Values from the 6265bis draft, section 5.6, from RFC 6265, section 3.1, and from the rules of docs/DEFINITIONS.md.
+//! Values from the 6265bis draft, section 5.6, from RFC 6265, section 3.1, and from the rules of
+//! docs/DEFINITIONS.md.
 use super::{Line, LineRefusal, read_line};
-use jar_types::{Priority, SameSite, Text};
+use jar_values::{Moment, Priority, SameSite, Text};
 use std::test::Fail;
 
+/// The text, or `none` where there is none.
 fn text_of(text: &Option<Text>) -> &str {
     match text {
         Some(text) => text.as_str(),
@@ -139,10 +141,41 @@ fn flags_and_words_are_read_without_case(rt: HostRuntime) -> Result<(), Fail> {
     Ok(())
 }
 
+/// The refusal of a line, if it is refused.
 fn refusal_of(line: Result<Line, LineRefusal>) -> Option<LineRefusal> {
     match line {
         Ok(_) => None,
         Err(refusal) => Some(refusal),
+    }
+}
+
+#[test]
+fn a_line_keeps_each_of_its_parts(rt: HostRuntime) -> Result<(), Fail> {
+    let text = "n=v; Domain=.A.Test; Path=/p; Expires=Sun, 06 Nov 1994 08:49:37 GMT; Max-Age=1; \
+        Secure; HttpOnly; SameSite=Lax; Priority=Low";
+    let line = read_line(rt.alloc(), text)?;
+    let texts = [
+        (line.name.as_str(), "n"),
+        (line.value.as_str(), "v"),
+        (text_of(&line.domain), "a.test"),
+        (text_of(&line.path), "/p"),
+    ];
+    for (got, want) in texts {
+        assert_eq!(rt; got, want);
+    }
+    assert!(rt; line.expires == Moment::of(784_111_777_000));
+    assert_eq!(rt; line.max_age, Some(1));
+    assert_eq!(rt; (line.secure, line.http_only), (true, true));
+    assert_eq!(rt; line.same_site, SameSite::Lax);
+    assert_eq!(rt; line.priority, Priority::Low);
+    Ok(())
+}
+
+#[test]
+fn a_control_byte_refuses_a_line_first(rt: HostRuntime) {
+    for text in ["\u{1}", "=;\u{7F}", " ;\n", "a=1;\0"] {
+        let refusal = refusal_of(read_line(rt.alloc(), text));
+        assert_eq!(rt; refusal, Some(LineRefusal::Control), "{text}");
     }
 }
 
@@ -174,7 +207,7 @@ fn each_control_byte_but_the_tab_refuses_the_line(rt: HostRuntime) -> Result<(),
     Ok(())
 }
 
-// A text with so many letters at its end.
+/// A text with so many letters at its end.
 fn with_letters(rt: &HostRuntime, start: &str, count: usize, letter: char) -> Result<String, Fail> {
     let mut text = String::from_str(rt.alloc(), start)?;
     for _ in 0..count {

@@ -1,10 +1,12 @@
 use Rattle.std.proofs.Common.{◌≡◌, ◌+◌, ◌-◌, ◌≤◌, length, vec_len}
-use Rattle.std.specs.Io.KnownBytes.{Consumes}
+use Rattle.jar_edge.specs.Streams.{GivesJust}
 use Rattle.jar_edge.proofs.reading.read_whole.Given as goal
 
 abbrev pub invariant-loop-chunk : goal.invariant-loop-chunk
 invariant-loop-chunk g l =
-    Consumes (g.S.Source.left l.initial.source) (g.S.Source.left l.source) l.bytes.items × (length l.bytes.items ≤ l.limit + 1) × (g.S.Source.faults l.source ≡ g.S.Source.faults l.initial.source)
+    let before = g.S.Source.told l.initial.source in
+    let now = g.S.Source.told l.source in
+    GivesJust before now l.bytes.items × (length l.bytes.items ≤ l.limit + 1) × (now.faults ≡ before.faults)
 
 abbrev pub decreases-loop-chunk : goal.decreases-loop-chunk
 decreases-loop-chunk g l = l.limit + 1 - vec_len l.bytes

@@ -1,7 +1,7 @@
 use Rattle.std.proofs.Common.{◌∷◌, [], ◌≡◌, false, ◌∙◌, ap, sym, eqb}
 use Rattle.std.specs.List.{starts_with}
 use Rattle.std.proofs.lemmas.Str.Pattern.{starts_text}
-use Rattle.jar_types.specs.Hosts.{is_number}
+use Rattle.jar_values.specs.Hosts.{is_number}
 use Rattle.public_suffix.proofs.address.is_ip_host.Goals as goal
 
 pub returns-else-starts_with : goal.returns-else-starts_with

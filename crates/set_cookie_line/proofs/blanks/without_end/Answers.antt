@@ -2,7 +2,7 @@
 use Rattle.std.proofs.Common.{◌≡◌, ◌-◌, ◌<◌, ◌∙◌, ap, length, subst, sym, arith, ℕ}
 use Rattle.std.specs.List.{suffix_len, slice_index}
 use Rattle.std.proofs.lemmas.List.Sums.{suffix_len-le-length}
-use Rattle.set_cookie_line.specs.Blanks.{is_blank}
+use Rattle.jar_values.specs.Bytes.{is_blank}
 use Rattle.set_cookie_line.proofs.BoundaryLemmas.{end_small}
 use Rattle.set_cookie_line.proofs.blanks.without_end.Goals as goal
 

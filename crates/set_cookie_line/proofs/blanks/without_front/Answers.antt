@@ -2,7 +2,7 @@
 use Rattle.std.proofs.Common.{◌≡◌, ◌<◌, ◌∙◌, ap, subst, sym, ℕ}
 use Rattle.std.specs.List.{prefix_len}
 use Rattle.std.specs.Str.{IsCharBoundary}
-use Rattle.set_cookie_line.specs.Blanks.{is_blank}
+use Rattle.jar_values.specs.Bytes.{is_blank}
 use Rattle.set_cookie_line.proofs.BoundaryLemmas.{front_boundary}
 use Rattle.set_cookie_line.proofs.blanks.without_front.Goals as goal
 

@@ -12,9 +12,12 @@ returns-clause-bytes c =
     let at = c.self.inside.at in
     let n = c.min-n.result in
     let within : n ≤ length (drop at all) = omega arith in (
-      rw (copied, ← c.self.view_is) (left_is_copied all (drop n buffer) at n within),
-      λ none_given some_asked.
-          let copied_few = simp length-take at c.copy_from_slice.ensures.len in
-          let has_room : 0 < length buffer = omega (arith, simp (length-append, length-drop) at some_asked, copied_few) in
-          nil_from_length _ (simp length-drop (omega (arith, simp length-drop at most))),
+      (
+        rw (copied, ← c.self.view_is) (left_is_copied all (drop n buffer) at n within),
+        λ none_given some_asked.
+            let copied_few = simp length-take at c.copy_from_slice.ensures.len in
+            let has_room : 0 < length buffer = omega (arith, simp (length-append, length-drop) at some_asked, copied_few) in
+            nil_from_length _ (simp length-drop (omega (arith, simp length-drop at most))),
+      ),
+      rw (← c.self.view_is) c.note.ensures,
     )

@@ -1,4 +1,4 @@
-use Rattle.plain_jar.proofs.IdLemmas.{with_rises}
+use Rattle.jar_types.proofs.RisingLemmas.{with_rises}
 use Rattle.plain_jar.proofs.by_id.ById.with.Goals as goal
 
 pub invariant_of-result : goal.invariant_of-result

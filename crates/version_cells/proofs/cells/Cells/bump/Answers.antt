@@ -1,5 +1,5 @@
 use Rattle.std.proofs.Common.{sym, ap, ◌∙◌, arith}
-use Rattle.version_cells.specs.Entries.{has}
+use Rattle.version_cells.specs.Listings.{has}
 use Rattle.version_cells.specs.Standing.{BatonStanding}
 use Rattle.version_cells.proofs.Bumping.{bumps}
 use Rattle.version_cells.proofs.cells.Cells.bump.Goals as goal

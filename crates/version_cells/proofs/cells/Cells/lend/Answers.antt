@@ -2,7 +2,6 @@ use Rattle.std.proofs.Common.{ℕ, sym, ap, ◌∙◌, arith}
 use Rattle.atomic_table.specs.Table.{Me}
 use Rattle.version_cells.specs.declared.view.View.{View}
 use Rattle.version_cells.specs.Standing.{BatonStanding, PassStanding}
-use Rattle.version_cells.proofs.Fronting.{baton_counts}
 use Rattle.version_cells.proofs.Cuts.{lends}
 use Rattle.version_cells.proofs.Meeting.{baton_takes_as, may_take_one}
 use Rattle.version_cells.proofs.cells.Cells.lend.Goals as goal
@@ -22,11 +21,4 @@ join_seat-requires c = (
   (let w = c.self.invariant in omega arith),
   baton_takes_as _ _ _ _ _ _ c.baton.invariant.0 c.split_seat-copy.ensures.4
       (may_take_one _ _ (ap (λ (s : BatonStanding). s.view.permit) c.baton.view_is ∙ c.requires.free.1)),
-)
-
-pub load-requires : goal.load-requires
-load-requires c = (
-  c.join_seat.ensures.0 ∙ ap (λ (s : BatonStanding). s.table) c.baton.view_is ∙ c.requires.same.1 ∙ sym c.self.view_is,
-  (let w = c.self.invariant in omega arith),
-  baton_counts _ _ _ (ap (λ (m : Me ℕ View). m.0.kind) c.join_seat.ensures.2 ∙ c.baton.invariant.0) (ap (λ (m : Me ℕ View). m.1) c.join_seat.ensures.2 ∙ c.baton.invariant.1),
 )

@@ -1,5 +1,5 @@
 use Rattle.std.proofs.Common.{subst}
-use Rattle.version_cells.specs.Entries.{StartsWith}
+use Rattle.version_cells.specs.Listings.{StartsWith}
 use Rattle.version_cells.specs.Standing.{PassStanding}
 use Rattle.version_cells.proofs.Prefixes.{starts_take}
 use Rattle.version_cells.proofs.pass.Pass.front.Goals as goal

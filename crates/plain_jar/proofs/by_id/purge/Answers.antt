@@ -1,9 +1,0 @@
-use Rattle.std.proofs.Common.{rules}
-use Rattle.std.specs.Prelude.{not, ◌&&◌}
-use Rattle.std.proofs.lemmas.Fn.{filter_same}
-use Rattle.jar_types.specs.Purges.{has_key, is_expired}
-use Rattle.plain_jar.proofs.by_id.purge.Goals as goal
-
-pub returns : goal.returns
-returns c =
-    filter_same _ (λ d. not (has_key c.args.key.now d && is_expired c.args.now d)) _ (λ x b f' k. search rules) _ _ c.retain.ensures.filtered

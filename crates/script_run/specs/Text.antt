@@ -1,0 +1,4 @@
+pub mod SetLines
+pub mod Form
+pub mod Drafts
+pub mod Scripts

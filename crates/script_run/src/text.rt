@@ -1,0 +1,11 @@
+//! Scripts: their form, their suffix list and places, and why they are refused.
+
+mod draft;
+mod form;
+mod member;
+mod places;
+pub mod refused;
+pub mod script;
+pub mod set_line;
+mod short_text;
+pub mod step;

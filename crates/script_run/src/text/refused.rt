@@ -1,0 +1,47 @@
+//! Why an input is refused.
+
+use jar_types::{NoMemory, Text};
+
+/// The names of refusals of an input, in the order in which they apply.
+#[derive(Clone, Copy, Debug, PartialEq, Eq)]
+pub enum Refusal {
+    /// It has too many bytes.
+    TooLarge,
+    /// It is no JSON text.
+    NotJson,
+    /// It isn't of the form of a script.
+    NotBuilt,
+    /// Its suffix list is refused.
+    BadSuffixes,
+    /// The URL of a step is no place, and those before it are.
+    BadPlace,
+}
+
+/// A refusal of an input: its name, and the path in the input, a JSON Pointer.
+///
+/// RFC 6901; the names are this jar's own rule: docs/DEFINITIONS.md.
+#[derive(Drop)]
+pub struct Refused {
+    pub name: Refusal,
+    pub path: Text,
+}
+
+/// Why an input gives no script.
+#[derive(Drop)]
+pub enum ScriptRefusal {
+    /// It is refused.
+    Refused(Refused),
+    /// Memory was wanting.
+    NoMemory,
+}
+
+impl From<NoMemory> for ScriptRefusal {
+    ghost use Rattle.std.specs.Prelude.{◌≡◌};
+    ghost use Rattle.script_run.specs.declared.text.refused.ScriptRefusal.TheVariants.{NoMemory as WantOfMemory};
+
+    ghost from_gives = { λ _ refusal. refusal ≡ WantOfMemory };
+
+    fn from(_error: NoMemory) -> ScriptRefusal {
+        ScriptRefusal::NoMemory
+    }
+}
