@@ -7,7 +7,7 @@ Usage, where the program is built (by ./cookiejar or .ci/run):
 
 It compares with nothing, and is no test. Aims on one processor that is else idle: an empty run under 10 ms, 180 steps
 under 50 ms and 64 MB, and 180 steps over 9,500 suffix rules under 150 ms, most of it for reading the list, which is to
-take under 100 ms. An empty run is one whose words are refused, so it reads nothing.
+take under 100 ms; 180 sets with five attributes under 1.3 times those without. An empty run is one whose words are refused, so it reads nothing.
 
 A script of S steps sets H hosts times C cookies, all of one key, and gets with the steps that are left, each time on the
 next host; so the answer has C cookies. The suffix list is that of Debian's package publicsuffix where it is there, and
@@ -36,6 +36,13 @@ SHAPES = ((1, 1, 1), (60, 6, 5), (180, 1, 90), (180, 6, 15), (180, 90, 1))
 # Two of them, of which the second has three times the steps and the cookies of the first.
 GROWING = ((60, 6, 5), (180, 6, 15))
 
+# Runs of ever more steps over the same cookies.
+LONGER = ((180, 30, 3), (2000, 30, 3), (20000, 30, 3))
+
+# A run of sets alone, once with bare lines and once with lines of five attributes.
+SETS = (180, 180, 1)
+ATTRIBUTES = "; Path=/shop; Max-Age=86400; Secure; HttpOnly; SameSite=Lax"
+
 # The runs over lists: a step alone, which is the time of the list, and 180.
 OVER_LISTS = ((1, 1, 1), (180, 6, 15))
 
@@ -63,14 +70,14 @@ def real_rules():
     return [word for word in words if not word.startswith("//")]
 
 
-def script(steps, hosts, cookies, rules):
+def script(steps, hosts, cookies, rules, attributes=""):
     """A script of this many steps: hosts times cookies sets, each host on a path of its own, and then gets."""
     made = []
     for i in range(steps):
         host = i % hosts
         step = {"now": 1000 * i, "op": "get", "url": f"https://host{host}.example.co.uk/shop/{host}/page?n={i}"}
         if i < hosts * cookies:
-            step |= {"line": f"n{i // hosts}=v{i}", "op": "set"}
+            step |= {"line": f"n{i // hosts}=v{i}{attributes}", "op": "set"}
         made.append(step)
     whole = {"actors": [{"kind": "fetch", "steps": made}]}
     if rules:
@@ -100,9 +107,9 @@ def best(words, given, wanted):
     return min(ms for ms, _ in runs), min(mb for _, mb in runs)
 
 
-def row(steps, hosts, cookies, rules):
+def row(steps, hosts, cookies, rules, attributes=""):
     """Times one script and prints its row: its milliseconds."""
-    given = script(steps, hosts, cookies, rules)
+    given = script(steps, hosts, cookies, rules, attributes)
     ms, mb = best(["serial"], given, 0)
     print(f"{steps:>5} {hosts:>6} {cookies:>8} {len(rules):>6} {len(given):>11} {ms:>8.2f} {mb:>8.1f}")
     return ms
@@ -132,6 +139,12 @@ def main():
     # Three times the steps set three times the cookies: an answer has three times as many, and each step copies the jar.
     fewer, more = (spent[shape, 0] for shape in GROWING)
     print(f"growth: {GROWING[1][0] // GROWING[0][0]} times the steps and cookies take {more / fewer:.1f} times the time of a run")
+
+    longer = [row(*shape, []) for shape in LONGER]
+    for shape, ms in zip(LONGER, longer):
+        print(f"{shape[0]} steps: {1000 * ms / shape[0]:.1f} us a step")
+    bare, full = (row(*SETS, [], attributes) for attributes in ("", ATTRIBUTES))
+    print(f"lines: {SETS[0]} sets with five attributes take {full / bare:.2f} times those without")
 
 
 if __name__ == "__main__":

@@ -1,10 +1,10 @@
 -- Lists whose ids rise: a purged key, a cookie set in its place, cookies changed in what is not their id, and so the
 -- cookies after every journal.
 use Rattle.std.proofs.Common.{◌≡◌, ℕ, List, [], ◌∷◌, ◌++◌, Bool, true, false, cond, refl, ap, ◌∙◌}
-use Rattle.std.specs.Prelude.{filter, map, nat_le, ◌+◌, fold}
+use Rattle.std.specs.Prelude.{filter, map, length, not, nat_le, ◌+◌, fold, Option, None, Some}
 use Rattle.std.specs.Cmp.{IsTotalOrder}
 use Rattle.std.specs.Cmp.Lexicographic.{on_texts}
-use Rattle.std.specs.List.{AllByRecursion}
+use Rattle.std.specs.List.{AllByRecursion, list_any}
 use Rattle.std.specs.List.Sorted.{IsStrictlySortedBy}
 use Rattle.std.specs.Ordering.{is_lt, is_gt, ordering_reverse}
 use Rattle.std.specs.declared.cmp.Ordering.{Ordering}
@@ -14,16 +14,21 @@ use Rattle.std.proofs.lemmas.List.Kept.{IsStrictlySortedBy-filter}
 use Rattle.jar_types.specs.declared.cookie.Cookie.{Cookie}
 use Rattle.jar_types.specs.declared.op.Op.{Op}
 use Rattle.jar_types.specs.declared.op.Op.TheVariants.{Set, Get}
+use Rattle.jar_types.specs.declared.op.Reply.{Reply}
 use Rattle.jar_types.specs.declared.op.TheConstants.{REFRESH_AFTER}
+use Rattle.jar_types.specs.declared.limits.TheConstants.{MOST_OF_JAR}
 use Rattle.jar_types.specs.declared.entry.Own.TheVariants.{Whole}
 use Rattle.jar_types.specs.declared.entry.Event.{Event}
 use Rattle.jar_types.specs.declared.entry.Event.TheVariants.{Call as CallEvent, Jar as JarEvent}
 use Rattle.jar_types.specs.declared.request.Request.{Request}
-use Rattle.jar_types.specs.Ids.{id_cmp, id_of, cookie_cmp, RisesById}
+use Rattle.jar_types.specs.Changes.{Changed}
+use Rattle.jar_types.specs.Evictions.{cookie_looks, evict, thinned, all_purged, all_thinned, swept_where, swept}
+use Rattle.jar_types.specs.Ids.{id_cmp, id_of, cookie_cmp, same_id, RisesById}
 use Rattle.jar_types.specs.Answers.{is_answered}
 use Rattle.jar_types.specs.Gets.{refreshed, served}
-use Rattle.jar_types.specs.Purges.{purged}
-use Rattle.jar_types.specs.Sets.{with_cookie, old_of, kept_over}
+use Rattle.jar_types.specs.Plans.{key_plan, jar_plan}
+use Rattle.jar_types.specs.Purges.{purge, purged, is_expired, has_key}
+use Rattle.jar_types.specs.Sets.{with_cookie, without_cookie, old_of, kept_over, removed_over, put_where, put, barred, tidied, set_where}
 use Rattle.jar_types.specs.States.{JarState, opening}
 use Rattle.jar_types.specs.Steps.{op_step, after}
 use Rattle.jar_types.specs.Journals.{events, stored_keys, state_of}
@@ -114,17 +119,65 @@ with_rises c cookies rises =
     )
     (passing (λ d. cookie_cmp d c ≡ Less) (λ d. is_lt (cookie_cmp d c)) (λ d e. less_from (cookie_cmp d c) e) cookies)
 
+-- a new cookie leaves the others in the order of their ids, whether it has expired or lives
+pub without_rises : (c : Cookie) (cookies : List Cookie) → RisesById cookies → RisesById (without_cookie c cookies)
+without_rises c cookies rises = IsStrictlySortedBy-filter cookie_cmp (λ d. not (same_id c d)) cookies rises
+
+pub removed_rises : (old : Option Cookie) (c : Cookie) (cookies : List Cookie) → RisesById cookies
+    → RisesById (removed_over old c cookies).cookies
+removed_rises None c cookies rises = rises
+removed_rises (Some old) c cookies rises = without_rises c cookies rises
+
+pub put_rises : (has_expired : Bool) (old : Option Cookie) (c : Cookie) (cookies : List Cookie) → RisesById cookies
+    → RisesById (put_where has_expired old c cookies).all.cookies
+put_rises true old c cookies rises = removed_rises old c cookies rises
+put_rises false old c cookies rises = with_rises (kept_over old c) cookies rises
+
+-- and so do evictions
+pub evict_rises : (gone cookies : List Cookie) → RisesById cookies → RisesById (evict gone cookies).cookies
+evict_rises gone cookies rises = IsStrictlySortedBy-filter cookie_cmp (λ c. not (list_any (same_id c) gone)) cookies rises
+
+pub thinned_rises : (key : List ℕ) (cookies : List Cookie) → RisesById cookies → RisesById (thinned key cookies).cookies
+thinned_rises key cookies rises = evict_rises (key_plan cookie_looks (filter (has_key key) cookies)) cookies rises
+
+pub all_purged_rises : (now : ℕ) (cookies : List Cookie) → RisesById cookies → RisesById (all_purged now cookies).cookies
+all_purged_rises now cookies rises = IsStrictlySortedBy-filter cookie_cmp (λ c. not (is_expired now c)) cookies rises
+
+pub all_thinned_rises : (now : ℕ) (cookies : List Cookie) → RisesById cookies → RisesById (all_thinned now cookies).cookies
+all_thinned_rises now cookies rises = evict_rises (jar_plan cookie_looks now cookies) cookies rises
+
+pub swept_where_rises : (is_due : Bool) (now : ℕ) (cookies : List Cookie) → RisesById cookies
+    → RisesById (swept_where is_due now cookies).cookies
+swept_where_rises true now cookies rises =
+    all_thinned_rises now (all_purged now cookies).cookies (all_purged_rises now cookies rises)
+swept_where_rises false now cookies rises = rises
+
+pub swept_rises : (now : ℕ) (cookies : List Cookie) → RisesById cookies → RisesById (swept now cookies).cookies
+swept_rises now cookies rises = swept_where_rises (not (nat_le (length cookies) MOST_OF_JAR)) now cookies rises
+
+pub tidied_rises : (whole : Bool) (now : ℕ) (key : List ℕ) (cookies : List Cookie) → RisesById cookies
+    → RisesById (tidied whole now key cookies).cookies
+tidied_rises true now key cookies rises = swept_rises now (thinned key cookies).cookies (thinned_rises key cookies rises)
+tidied_rises false now key cookies rises = thinned_rises key cookies rises
+
+set_where_rises : (bar : Option Reply) (s : JarState) (now : ℕ) (c : Cookie) (left : Changed) → RisesById left.cookies
+    → RisesById (set_where bar s now c left).state.cookies
+set_where_rises (Some reply) s now c left rises = rises
+set_where_rises None s now c left rises =
+    tidied_rises s.whole now c.key (put now c left.cookies).all.cookies
+    (put_rises (is_expired now c) (old_of c left.cookies) c left.cookies rises)
+
 -- an op leaves the cookies in the order of their ids
 op_rises : (s : JarState) (caller now : ℕ) (op : Op) → RisesById s.cookies → RisesById (op_step s caller now op).state.cookies
 op_rises s caller now (Set cookie script secure) rises =
-    let left = purged cookie.key now s.cookies in
-    with_rises (kept_over (old_of cookie left) cookie) left (purged_rises cookie.key now s.cookies rises)
+    let left = purge cookie.key now s.cookies in
+    set_where_rises (barred script secure cookie left.cookies) s now cookie left (purged_rises cookie.key now s.cookies rises)
 op_rises s caller now (Get request) rises =
     served_rises request now (purged request.key now s.cookies) (purged_rises request.key now s.cookies rises)
 
 event_rises : (s : JarState) (v : Event) → RisesById s.cookies → RisesById (after s v).cookies
 event_rises s (CallEvent caller now op) rises = op_rises s caller now op rises
-event_rises s (JarEvent (Whole now)) rises = rises
+event_rises s (JarEvent (Whole now)) rises = swept_rises now s.cookies rises
 
 events_rise : (s : JarState) (vs : List Event) → RisesById s.cookies → RisesById (fold after s vs).cookies
 events_rise s [] rises = rises

@@ -4,6 +4,9 @@ pub mod Orders
 pub mod Answers
 pub mod Changes
 pub mod Purges
+pub mod Plans
+pub mod Evictions
+pub mod Rows
 pub mod Entries
 pub mod States
 pub mod Sets

@@ -12,15 +12,18 @@ use Rattle.jar_types.specs.declared.entry.Entry.TheVariants.{Call, Jar}
 use Rattle.jar_types.specs.States.{JarState, Stepped, OwnStepped, all_loaded}
 use Rattle.jar_types.specs.Sets.{set_step}
 use Rattle.jar_types.specs.Gets.{get_step}
+use Rattle.jar_types.specs.Evictions.{swept}
 
 -- what a caller's op leads to at a moment
 abbrev pub op_step : JarState → ℕ → ℕ → Op → Stepped
-op_step s caller now (Set cookie script secure) = set_step s now cookie
+op_step s caller now (Set cookie script secure) = set_step s now cookie script secure
 op_step s caller now (Get request) = get_step s now request
 
--- what the jar does itself: it becomes whole
+-- what the jar does itself: it becomes whole, and is swept
 abbrev pub own_step : JarState → Own → OwnStepped
-own_step s (Whole now) = record { state = record s { whole = true }; changes = [] }
+own_step s (Whole now) =
+    let all = swept now s.cookies in
+    record { state = record s { whole = true; cookies = all.cookies }; changes = all.changes }
 
 -- the state with one caller's entry more
 abbrev pub called : JarState → JarState

@@ -8,8 +8,9 @@ use std::alloc::Global;
 
 /// Why a cookie came or left.
 ///
-/// `Inserted` is of a cookie that came. `Overwrite` is of one that left for another of its id, and `Expired` of
-/// one that left at its expiry.
+/// `Inserted` is of a cookie that came. `Overwrite` is of one that left for another of its id, `Expired` of one that
+/// left at its expiry, `Evicted` of one that left where there were too many, and `ExpiredOverwrite` of one that left
+/// for another of its id that had expired.
 ///
 /// This jar's own rule: docs/DEFINITIONS.md.
 #[derive(Clone, Copy, Debug, PartialEq, Eq)]
@@ -17,6 +18,8 @@ pub enum Cause {
     Inserted,
     Overwrite,
     Expired,
+    Evicted,
+    ExpiredOverwrite,
 }
 
 /// A cookie that came or left, as it then stood, and why.

@@ -8,8 +8,10 @@ mod entry;
 mod jar_core;
 mod journal;
 mod law;
+mod limits;
 mod op;
 mod request;
+mod row;
 
 pub use change::{Cause, Change, Changes};
 pub use cookie::{Cookie, CookieId, Cookies};
@@ -17,12 +19,17 @@ pub use entry::{Entry, Event, Own};
 pub use jar_core::{CoreRefusal, JarCore, Prepared};
 pub use jar_values::{
     Copied, Listed, MAX_MOMENT, MAX_PAIR_BYTES, Moment, NoMemory, Priority, SameSite, TEXT_END,
-    Text, Texts, has_host_prefix, has_secure_prefix, is_blank, is_control, is_reserved,
+    Text, Texts, has_host_prefix, has_secure_prefix, is_blank, is_control, is_reserved, undotted,
 };
 pub use journal::Journal;
 pub use law::{cookies_rise, journals_go_on, states_go_on};
+pub use limits::{
+    HIGH_QUOTA, LEFT_OF_JAR, LEFT_OF_KEY, LOW_QUOTA, MEDIUM_QUOTA, MOST_OF_JAR, MOST_OF_KEY,
+    STALE_AFTER,
+};
 pub use op::{Op, REFRESH_AFTER, Reply};
 pub use request::{Context, Request, UNSAFE_GRACE};
+pub use row::{Row, Rows};
 
 #[cfg(test)]
 mod tests;

@@ -28,11 +28,17 @@ pub enum Op {
 
 /// What the jar replies.
 ///
-/// `Stored` and `Replaced` answer a Set, of a new id and of one that was there. `Cookies` answers a Get.
+/// A Set is answered `Stored` where its id is new and `Replaced` where it was there; for a cookie that has expired
+/// `Removed` where its id was there, and else `NothingThere`; and `OverwriteSecure` or `OverwriteHttpOnly` where a
+/// cookie that it may not touch bars it. `Cookies` answers a Get.
 #[derive(Drop)]
 pub enum Reply {
     Stored,
     Replaced,
+    Removed,
+    NothingThere,
+    OverwriteSecure,
+    OverwriteHttpOnly,
     Cookies(Cookies),
 }
 
@@ -64,6 +70,10 @@ impl Reply {
         match self {
             Reply::Stored => Ok(Reply::Stored),
             Reply::Replaced => Ok(Reply::Replaced),
+            Reply::Removed => Ok(Reply::Removed),
+            Reply::NothingThere => Ok(Reply::NothingThere),
+            Reply::OverwriteSecure => Ok(Reply::OverwriteSecure),
+            Reply::OverwriteHttpOnly => Ok(Reply::OverwriteHttpOnly),
             Reply::Cookies(cookies) => Ok(Reply::Cookies(cookies.copy(alloc)?)),
         }
     }

@@ -3,6 +3,7 @@
 
 mod attributes;
 mod bytes;
+mod hosts;
 mod listed;
 mod memory;
 mod moment;
@@ -11,6 +12,7 @@ mod text;
 
 pub use attributes::{Priority, SameSite};
 pub use bytes::{is_blank, is_control};
+pub use hosts::undotted;
 pub use listed::{Copied, Listed};
 pub use memory::NoMemory;
 pub use moment::{MAX_MOMENT, Moment};

@@ -1,7 +1,7 @@
 //! Each allocating call with ample memory, with its answer.
 
 use crate::{
-    Listed, Moment, Text, Texts, has_host_prefix, has_secure_prefix, is_blank, is_control,
+    Listed, Moment, Text, Texts, has_host_prefix, has_secure_prefix, is_blank, is_control, undotted,
 };
 use std::alloc::Global;
 use std::test::Fail;
@@ -64,4 +64,17 @@ fn bytes_and_names_are_told_apart(rt: HostRuntime) -> Result<(), Fail> {
     assert!(rt; has_secure_prefix("__sECURE-a") && !has_secure_prefix("__Secure"));
     assert!(rt; has_host_prefix("__hOST-") && !has_host_prefix("_Host-a"));
     Ok(())
+}
+
+// The values are from RFC 6265, section 5.2.3, by which one leading dot is dropped.
+#[test]
+fn one_leading_dot_is_dropped(rt: HostRuntime) {
+    for (host, wanted) in [
+        (".h.test", "h.test"),
+        ("h.test", "h.test"),
+        ("..h.test", ".h.test"),
+        ("", ""),
+    ] {
+        assert_eq!(rt; undotted(host), wanted, "{host}");
+    }
 }

@@ -1,2 +1,4 @@
 pub mod SortLemmas
 pub mod AnswerLemmas
+pub mod PlanLemmas
+pub mod EvictLemmas

@@ -82,6 +82,16 @@ impl ById {
             .find(|other| cookie_cmp(cookie, other).is_eq())
     }
 
+    /// The cookies without the one that has the id of a cookie.
+    #[tactic(auto, using(jar_types::proofs::RisingLemmas::without_rises))]
+    pub fn without(self, cookie: &Cookie) -> ById
+        ensures { result ≡ sets.without_cookie cookie.now self }
+    {
+        let mut left = self.into_vec();
+        take_out(&mut left, cookie);
+        ById::from_vec(left)
+    }
+
     /// The cookies with this one in the place of its id.
     pub fn with(self, alloc: Global, cookie: Cookie) -> Result<ById, NoMemory>
         ensures { IfOk result (λ cookies. cookies ≡ sets.with_cookie cookie self) }
@@ -91,6 +101,13 @@ impl ById {
             cookies: Cookies::from_vec(cookies),
         })
     }
+}
+
+/// Takes out the cookie that has the id of another.
+fn take_out(cookies: &mut Vec<Cookie>, cookie: &Cookie)
+    ensures { cookies.new.items ≡ sets.without_cookie cookie.now cookies.old.items }
+{
+    cookies.retain(|other| !cookie_cmp(cookie, other).is_eq());
 }
 
 /// The cookies of lesser ids, then this cookie, then those of greater ids.

@@ -3,13 +3,17 @@
 
 mod access;
 mod answer;
+mod bar;
 mod by_id;
 mod content;
 mod eligible;
+mod evict;
 mod get;
 mod jar;
 mod order;
+mod plan;
 mod purge;
+mod put;
 mod set;
 mod step;
 mod stepped;

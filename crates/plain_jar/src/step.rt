@@ -4,6 +4,7 @@ ghost use Rattle.std.specs.Prelude.{◌≡◌, ◌<◌, ◌-◌, ◌^◌, IfOk};
 ghost use Rattle.jar_types.specs.Steps as steps;
 
 use crate::content::Content;
+use crate::evict::swept;
 use crate::get::get;
 use crate::set::set;
 use crate::stepped::Stepped;
@@ -73,7 +74,11 @@ fn op_step(
     ensures entries { IfOk result (λ s. s.content.entries ≡ content.now.entries) }
 {
     match op {
-        Op::Set { cookie, .. } => set(alloc, content, now, cookie),
+        Op::Set {
+            cookie,
+            script,
+            secure,
+        } => set(alloc, content, now, cookie, *script, *secure),
         Op::Get(request) => get(alloc, content, now, request),
     }
 }
@@ -83,10 +88,19 @@ fn own_step(alloc: Global, content: &Content, own: Own) -> Result<Content, NoMem
     requires { content.now.entries < 2 ^ 64 - 1 }
     ensures { IfOk result (λ next. next ≡ steps.noted (steps.own_step content.now own).state) }
 {
-    let mut next = content.with_cookies(alloc, content.cookies.copy(alloc)?)?;
-    match own {
-        Own::Whole(_) => next.become_whole(),
-    }
+    let mut next = match own {
+        Own::Whole(now) => whole(alloc, content, now)?,
+    };
     next.count_own();
+    Ok(next)
+}
+
+/// The content of a jar that becomes whole at a moment, and is swept.
+fn whole(alloc: Global, content: &Content, now: Moment) -> Result<Content, NoMemory>
+    ensures { IfOk result (λ next. next ≡ (steps.own_step content.now (Own.Whole now)).state) }
+{
+    let left = swept(alloc, now, content.cookies.copy(alloc)?)?;
+    let mut next = content.with_cookies(alloc, left)?;
+    next.become_whole();
     Ok(next)
 }

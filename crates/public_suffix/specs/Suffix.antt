@@ -1,6 +1,6 @@
 -- Public suffixes and registrable domains over a list of rules. The Public Suffix List format,
 -- "Algorithm".
-use Rattle.std.specs.Prelude.{ℕ, zero, suc, ◌+◌, max, ◌≡◌, Bool, true, false, not, IsTrue, List, [], ◌∷◌, length, filter, if◌then◌else◌}
+use Rattle.std.specs.Prelude.{ℕ, zero, suc, ◌+◌, max, ◌≡◌, Bool, true, false, not, ◌&&◌, IsTrue, nat_le, List, [], ◌∷◌, length, filter, if◌then◌else◌}
 use Rattle.std.specs.List.{list_any}
 use Rattle.public_suffix.specs.declared.rule.Mark.{Mark}
 use Rattle.public_suffix.specs.declared.rule.Mark.TheVariants.{Plain, Wildcard, Exception}
@@ -75,3 +75,7 @@ key_of rules host = if has_suffix host then dotted (last_labels (suffix_len rule
 -- a host that is its own public suffix
 abbrev pub IsSuffix : List SuffixRule → List ℕ → Type 0
 IsSuffix rules host = IsTrue (has_suffix host) × (last_labels (suffix_len rules (labels_of host)) (labels_of host) ≡ labels_of host)
+
+-- a host is its own public suffix: it has one, and no more labels than that
+abbrev pub is_suffix : List SuffixRule → List ℕ → Bool
+is_suffix rules host = has_suffix host && nat_le (length (labels_of host)) (suffix_len rules (labels_of host))

@@ -85,7 +85,8 @@ impl Suffixes {
     ///
     /// The Public Suffix List format.
     pub fn is_suffix(&self, host: &str) -> bool
-        ensures { IsTrue result ↔ IsSuffix self.now host.now }
+        ensures value { result ≡ spec.is_suffix self.now host.now }
+        ensures labels { IsTrue result ↔ IsSuffix self.now host.now }
     {
         has_suffix(host) && self.suffix_len(host) >= count_labels(host)
     }

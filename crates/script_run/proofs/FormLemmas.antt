@@ -8,7 +8,8 @@ use Rattle.serde_json.specs.View.{members_of, items_of}
 use Rattle.script_run.specs.declared.text.draft.DraftStep.{DraftStep}
 use Rattle.script_run.specs.declared.text.form.FormRefusal.{FormRefusal}
 use Rattle.script_run.specs.declared.text.form.FormRefusal.TheVariants.{NotBuilt, NoMemory}
-use Rattle.script_run.specs.Text.Form.{member_count, size, item_count, with_first, step_of, steps_of, steps_within, sole_item, Reads}
+use Rattle.script_run.specs.Text.Members.{member_count, size}
+use Rattle.script_run.specs.Text.Form.{item_count, with_first, step_of, steps_of, steps_within, sole_item, Reads}
 
 pub member_count-members_of : (ms : List (String Global × Data)) → member_count (members_of ms) ≡ length ms
 member_count-members_of [] = refl

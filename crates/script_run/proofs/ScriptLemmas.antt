@@ -10,7 +10,8 @@ use Rattle.script_run.specs.declared.text.draft.Draft.{Draft}
 use Rattle.script_run.specs.declared.text.script.Script.{Script}
 use Rattle.script_run.specs.declared.text.refused.ScriptRefusal.{ScriptRefusal}
 use Rattle.script_run.specs.declared.text.refused.ScriptRefusal.TheVariants as refusal
-use Rattle.script_run.specs.Text.Form.{item_count, with_first, step_of, steps_of, steps_within, fetch_steps, fetch_by, text_at, fetch_of, sole_actor, suffixes_from, draft_from, draft_of}
+use Rattle.script_run.specs.Text.Members.{text_at}
+use Rattle.script_run.specs.Text.Form.{item_count, with_first, step_of, steps_of, steps_within, fetch_steps, fetch_by, fetch_of, sole_actor, suffixes_from, draft_from, draft_of}
 use Rattle.script_run.specs.Text.Scripts.{IsScriptIn, ReadsData}
 use Rattle.script_run.proofs.PlacesLemmas.{length-steps}
 

@@ -13,27 +13,28 @@ use Rattle.jar_values.specs.declared.attributes.SameSite.TheVariants.{Unspecifie
 use Rattle.jar_types.specs.declared.request.Request.{Request}
 use Rattle.jar_types.specs.declared.request.Context.TheVariants.{Strict, Lax, LaxUnsafe, Cross}
 use Rattle.jar_types.specs.declared.op.Op.TheVariants.{Set, Get}
-use Rattle.jar_types.specs.declared.op.Reply.TheVariants.{Stored, Replaced, Cookies}
+use Rattle.jar_types.specs.declared.op.Reply.TheVariants.{Stored, Replaced, Removed, NothingThere, OverwriteSecure, OverwriteHttpOnly, Cookies}
 use Rattle.jar_types.specs.declared.entry.Own.TheVariants.{Whole}
 use Rattle.jar_types.specs.declared.entry.Entry.TheVariants.{Call, Jar}
 use Rattle.script_run.specs.declared.report.item.Item.TheVariants.{At, Refused}
-use Rattle.script_run.specs.declared.text.set_line.RefusalName.TheVariants.{Control, Empty, TooLong}
+use Rattle.script_run.specs.declared.refusal_name.RefusalName.TheVariants.{Control, Empty, TooLong, DomainNotAscii, DomainSuffix, DomainMismatch, KeyMismatch, SecureFromInsecure, HttpOnlyFromScript, NoneInsecure, CrossSite, PrefixSecure, PrefixHost, PrefixNameless}
 use Rattle.script_run.specs.declared.tool.Failure.TheVariants.{ReadFault, NoMemory}
 use Rattle.script_run.specs.declared.tool.TheConstants.{MOST_INPUT}
 use Rattle.script_run.specs.declared.text.step.TheConstants.{MOST_STEPS}
 use Rattle.script_run.specs.declared.status.TheConstants.{DONE, OTHER_WORDS, REFUSED, READ_FAULT, WRITE_FAULT, NO_MEMORY}
 use Rattle.script_run.specs.declared.text.refused.Refusal.TheVariants.{NotJson}
 use Rattle.script_run.specs.Refusals.{refusal_line}
-use Rattle.script_run.specs.Text.Drafts.{bad_place}
+use Rattle.script_run.specs.Text.Walk.{bad_place, member_path}
 use Rattle.script_run.specs.Text.Scripts.{at_root}
 use Rattle.script_run.specs.Tool.{Writes, Fails}
+use Rattle.script_run.specs.RefusalNames.{refusal_word}
 use Rattle.script_run.specs.Reports.{item_data, reply_data, priority_word, same_site_word, context_word, report_text}
 
 -- the limits of an input and of a script
 most_input : MOST_INPUT ≡ 16777216
 most_input = refl
 
-most_steps : MOST_STEPS ≡ 180
+most_steps : MOST_STEPS ≡ 20000
 most_steps = refl
 
 -- the statuses
@@ -69,7 +70,7 @@ no_want fails = let same : 1 ≡ 0 = fails.1 in absurd (omega (arith, same))
 
 -- the lines of two refusals, at the root and at a step's URL
 refused_lines : (refusal_line (at_root NotJson) ≡ codes "{\"path\":\"\",\"refused\":\"NotJson\"}\n")
-    × (refusal_line (bad_place 12) ≡ codes "{\"path\":\"/actors/0/steps/12/url\",\"refused\":\"BadPlace\"}\n")
+    × (refusal_line (bad_place (member_path 12 (codes "url"))) ≡ codes "{\"path\":\"/actors/0/steps/12/url\",\"refused\":\"BadPlace\"}\n")
 unfolding digits serde_json_on_literals
 refused_lines = (refl, refl)
 
@@ -119,17 +120,24 @@ nothing_done : report_text [] (Jar (Whole 0) ∷ []) ≡ codes "{\"actors\":[[]]
 unfolding digits serde_json_on_literals
 nothing_done = refl
 
--- the names of refusals
+-- the names of refusals: of a line, and of a cookie
 refusals : (compact_text (item_data (Refused Control)) ≡ codes "{\"refused\":\"Control\"}")
-    × (compact_text (item_data (Refused Empty)) ≡ codes "{\"refused\":\"Empty\"}")
-    × (compact_text (item_data (Refused TooLong)) ≡ codes "{\"refused\":\"TooLong\"}")
+    × (refusal_word Empty ≡ codes "Empty") × (refusal_word TooLong ≡ codes "TooLong")
+    × (refusal_word DomainNotAscii ≡ codes "DomainNotAscii") × (refusal_word DomainSuffix ≡ codes "DomainSuffix")
+    × (refusal_word DomainMismatch ≡ codes "DomainMismatch") × (refusal_word KeyMismatch ≡ codes "KeyMismatch")
+    × (refusal_word SecureFromInsecure ≡ codes "SecureFromInsecure") × (refusal_word HttpOnlyFromScript ≡ codes "HttpOnlyFromScript")
+    × (refusal_word NoneInsecure ≡ codes "NoneInsecure") × (refusal_word CrossSite ≡ codes "CrossSite")
+    × (refusal_word PrefixSecure ≡ codes "PrefixSecure") × (refusal_word PrefixHost ≡ codes "PrefixHost")
+    × (refusal_word PrefixNameless ≡ codes "PrefixNameless")
 unfolding serde_json_on_literals
-refusals = (refl, refl, refl)
+refusals = (refl, refl, refl, refl, refl, refl, refl, refl, refl, refl, refl, refl, refl, refl)
 
--- replies: a replaced cookie, and no cookie
-replies : (compact_text (reply_data Replaced) ≡ codes "\"replaced\"") × (compact_text (reply_data (Cookies [])) ≡ codes "{\"cookies\":[]}")
+-- replies: each word, and no cookie
+replies : (compact_text (reply_data Replaced) ≡ codes "\"replaced\"") × (compact_text (reply_data Removed) ≡ codes "\"removed\"")
+    × (compact_text (reply_data NothingThere) ≡ codes "\"nothing_there\"") × (compact_text (reply_data OverwriteSecure) ≡ codes "\"overwrite_secure\"")
+    × (compact_text (reply_data OverwriteHttpOnly) ≡ codes "\"overwrite_http_only\"") × (compact_text (reply_data (Cookies [])) ≡ codes "{\"cookies\":[]}")
 unfolding serde_json_on_literals
-replies = (refl, refl)
+replies = (refl, refl, refl, refl, refl, refl)
 
 -- the words that the two reports above lack
 words : (same_site_word NoLimit ≡ codes "none") × (same_site_word LaxSite ≡ codes "lax") × (same_site_word StrictSite ≡ codes "strict")

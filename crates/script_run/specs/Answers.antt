@@ -15,7 +15,7 @@ use Rattle.script_run.specs.Text.Scripts.{at_root, IsScript, IsRefused}
 pub record IsReport (script : Script) (status : ℕ) (text : List ℕ) : Type 0 where
   pub items : List Item
   pub journal : List Entry
-  pub history : IsHistory script.steps items journal
+  pub history : IsHistory script items journal
   pub done : status ≡ DONE
   pub written : text ≡ report_text items journal
 

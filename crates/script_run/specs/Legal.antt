@@ -8,7 +8,6 @@ use Rattle.public_suffix.specs.Rule.{SuffixRule}
 use Rattle.public_suffix.specs.Suffix.{key_of}
 use Rattle.script_run.specs.declared.text.draft.Draft.{Draft}
 use Rattle.script_run.specs.declared.text.script.Script.{Script}
-use Rattle.script_run.specs.declared.text.step.Step.{Step}
 use Rattle.script_run.specs.declared.report.item.Item.{Item}
 use Rattle.script_run.specs.declared.report.item.Item.TheVariants.{At, Refused}
 use Rattle.script_run.specs.Text.Drafts.{IsScriptFrom}
@@ -30,7 +29,7 @@ rules_of suffixes limit = record {
 abbrev pub SerialJournalsAreLegal : Type 0
 SerialJournalsAreLegal =
     (draft : Draft) (script : Script) (run : Run) (limit : ℕ)
-    → IsScriptFrom draft script → Ends script.steps run → length script.steps ≤ limit
+    → IsScriptFrom draft script → Ends script run → length script.steps ≤ limit
     → IsLegal (rules_of script.suffixes limit) run.journal
 
 -- the places of the callers' entries, where the first entry of the list has this place
@@ -48,9 +47,9 @@ named_places (Refused name ∷ items) = named_places items
 -- the items of a script name the entries of its caller, each once and in their order
 abbrev pub ItemsNameTheCalls : Type 0
 ItemsNameTheCalls =
-    (steps : List Step) (run : Run) → Ends steps run
+    (script : Script) (run : Run) → Ends script run
     → named_places run.items ≡ call_places 1 run.journal
 
 -- a script ends in one way alone
 abbrev pub RunsAreOne : Type 0
-RunsAreOne = (steps : List Step) (run other : Run) → Ends steps run → Ends steps other → run ≡ other
+RunsAreOne = (script : Script) (run other : Run) → Ends script run → Ends script other → run ≡ other

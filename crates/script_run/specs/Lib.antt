@@ -1,4 +1,5 @@
 pub mod Text
+pub mod RefusalNames
 pub mod Reports
 pub mod ReportTokens
 pub mod Ask

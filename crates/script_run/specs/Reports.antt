@@ -14,14 +14,13 @@ use Rattle.jar_types.specs.declared.request.Context.TheVariants.{Strict, Lax, La
 use Rattle.jar_types.specs.declared.op.Op.{Op}
 use Rattle.jar_types.specs.declared.op.Op.TheVariants.{Set, Get}
 use Rattle.jar_types.specs.declared.op.Reply.{Reply}
-use Rattle.jar_types.specs.declared.op.Reply.TheVariants.{Stored, Replaced, Cookies}
+use Rattle.jar_types.specs.declared.op.Reply.TheVariants.{Stored, Replaced, Removed, NothingThere, OverwriteSecure, OverwriteHttpOnly, Cookies}
 use Rattle.jar_types.specs.declared.entry.Own.TheVariants.{Whole}
 use Rattle.jar_types.specs.declared.entry.Entry.{Entry}
 use Rattle.jar_types.specs.declared.entry.Entry.TheVariants.{Call, Jar}
 use Rattle.script_run.specs.declared.report.item.Item.{Item}
 use Rattle.script_run.specs.declared.report.item.Item.TheVariants.{At, Refused}
-use Rattle.script_run.specs.declared.text.set_line.RefusalName.{RefusalName}
-use Rattle.script_run.specs.declared.text.set_line.RefusalName.TheVariants.{Control, Empty, TooLong}
+use Rattle.script_run.specs.RefusalNames.{refusal_word}
 
 -- a whole number
 abbrev pub count_data : ℕ → Data
@@ -98,6 +97,10 @@ op_data (Get request) =
 abbrev pub reply_data : Reply → Data
 reply_data Stored = string (codes "stored")
 reply_data Replaced = string (codes "replaced")
+reply_data Removed = string (codes "removed")
+reply_data NothingThere = string (codes "nothing_there")
+reply_data OverwriteSecure = string (codes "overwrite_secure")
+reply_data OverwriteHttpOnly = string (codes "overwrite_http_only")
 reply_data (Cookies cookies) = object (member (codes "cookies") (array (items_of (map cookie_data cookies))) no_members)
 
 -- an entry of the journal
@@ -111,12 +114,6 @@ entry_data (Call caller now op reply) =
     no_members))))
 entry_data (Jar (Whole now)) =
     object (member (codes "now") (count_data now) (member (codes "own") (string (codes "whole")) no_members))
-
--- the name of a refusal
-abbrev pub refusal_word : RefusalName → List ℕ
-refusal_word Control = codes "Control"
-refusal_word Empty = codes "Empty"
-refusal_word TooLong = codes "TooLong"
 
 -- an item: the place of a step's entry in the journal, or the name of its refusal
 abbrev pub item_data : Item → Data

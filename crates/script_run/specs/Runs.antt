@@ -10,11 +10,13 @@ use Rattle.jar_types.specs.declared.entry.Event.TheVariants.{Call as CallEvent, 
 use Rattle.jar_types.specs.declared.entry.Entry.{Entry}
 use Rattle.jar_types.specs.States.{JarState, opening}
 use Rattle.jar_types.specs.Steps.{after, entry_of, own_may_stand}
+use Rattle.script_run.specs.declared.text.script.Script.{Script}
 use Rattle.script_run.specs.declared.text.step.Step.{Step}
 use Rattle.script_run.specs.declared.ask.Ask.{Ask}
 use Rattle.script_run.specs.declared.ask.Ask.TheVariants as ask
 use Rattle.script_run.specs.declared.report.item.Item.{Item}
 use Rattle.script_run.specs.declared.report.item.Item.TheVariants.{At, Refused}
+use Rattle.public_suffix.specs.Rule.{SuffixRule}
 use Rattle.script_run.specs.Ask.{ask_of}
 
 -- a run so far: the state of the jar, the journal, and an item for each step that was tried
@@ -50,45 +52,46 @@ noted r item = record r { items = r.items ++ item ∷ [] }
 abbrev pub called : Run → ℕ → Op → Run
 called r now op = let h = happened r (CallEvent 0 now op) in noted h (At (length h.journal))
 
--- a step was tried that asks this at a moment: a refused line makes no entry
+-- a step was tried that asks this at a moment: a refused one makes no entry
 abbrev pub asked : Run → ℕ → Ask → Run
 asked r now (ask.Op op) = called r now op
 asked r now (ask.Refused name) = noted r (Refused name)
 
-abbrev pub tried_step : Run → Option Step → Run
-tried_step r None = r
-tried_step r (Some step) = asked r step.now (ask_of step)
+-- a step was tried by the suffix rules, where there is one
+abbrev pub tried_step : List SuffixRule → Run → Option Step → Run
+tried_step rules r None = r
+tried_step rules r (Some step) = asked r step.now (ask_of rules step)
 
 -- the fetch tried its next step, where one is left
-abbrev pub tried : List Step → Run → Run
-tried steps r = tried_step r (slice_get steps (length r.items))
+abbrev pub tried : Script → Run → Run
+tried script r = tried_step script.suffixes r (slice_get script.steps (length r.items))
 
 -- the jar loaded: it became whole, where it may
 abbrev pub loaded : Run → Run
 loaded r = if own_may_stand r.state whole_event then happened r (JarEvent whole_event) else r
 
 -- one round
-abbrev pub round : List Step → Run → Run
-round steps r = loaded (tried steps r)
+abbrev pub round : Script → Run → Run
+round script r = loaded (tried script r)
 
 -- the run after this many rounds
-abbrev pub rounds : List Step → ℕ → Run
-rounds steps zero = begin
-rounds steps (suc n) = round steps (rounds steps n)
+abbrev pub rounds : Script → ℕ → Run
+rounds script zero = begin
+rounds script (suc n) = round script (rounds script n)
 
 -- no step is left
-abbrev pub is_done : List Step → Run → Bool
-is_done steps r = nat_le (length steps) (length r.items)
+abbrev pub is_done : Script → Run → Bool
+is_done script r = nat_le (length script.steps) (length r.items)
 
 -- the run ends like this: after the first round behind which no step is left, and no earlier
-pub record Ends (steps : List Step) (r : Run) : Type 0 where
+pub record Ends (script : Script) (r : Run) : Type 0 where
   pub count : ℕ
   pub some : 1 ≤ count
-  pub is : r ≡ rounds steps count
-  pub done : is_done steps r ≡ true
-  pub first : (k : ℕ) → 1 ≤ k → k < count → is_done steps (rounds steps k) ≡ false
+  pub is : r ≡ rounds script count
+  pub done : is_done script r ≡ true
+  pub first : (k : ℕ) → 1 ≤ k → k < count → is_done script (rounds script k) ≡ false
 
--- the items and the journal of a script's steps
-pub record IsHistory (steps : List Step) (items : List Item) (journal : List Entry) : Type 0 where
+-- the items and the journal of a script
+pub record IsHistory (script : Script) (items : List Item) (journal : List Entry) : Type 0 where
   pub state : JarState
-  pub ends : Ends steps (record { state = state; journal = journal; items = items })
+  pub ends : Ends script (record { state = state; journal = journal; items = items })

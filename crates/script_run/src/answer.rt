@@ -51,7 +51,7 @@ fn report_answer(alloc: Global, script: &Script) -> Result<Answer, NoMemory>
     requires { length script.now.steps ≤ MOST_STEPS }
     ensures { IfOk result (λ a. spec.IsReport script.entry.now a.status a.text.items) }
 {
-    let report = serial::<PlainJar>(alloc, script.steps.as_slice())?;
+    let report = serial::<PlainJar>(alloc, script)?;
     Ok(Answer {
         status: DONE,
         text: report_text(alloc, &report)?,

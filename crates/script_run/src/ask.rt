@@ -1,12 +1,17 @@
 //! What a step asks of the jar.
 
 ghost use Rattle.std.specs.Prelude.{◌≡◌, IfOk};
+ghost use Rattle.set_cookie_line.specs.Line.{read_line as line_read};
 ghost use Rattle.script_run.specs.Ask as spec;
 
-use crate::text::set_line::{RefusalName, SetLine};
+use crate::refusal_name::RefusalName;
+use crate::text::short_text::ShortText;
 use crate::text::step::{Step, What};
-use jar_types::{Context, Cookie, Moment, NoMemory, Op, Priority, Request, SameSite, Text};
-use site_match::{Place, default_path};
+use canonical_cookie::make;
+use jar_types::{Moment, NoMemory, Op, Request};
+use public_suffix::Suffixes;
+use set_cookie_line::{Line, read_line};
+use site_match::{FetchAsk, context};
 use std::alloc::Global;
 
 /// What a step asks of the jar.
@@ -14,83 +19,70 @@ use std::alloc::Global;
 pub enum Ask {
     /// An op.
     Op(Op),
-    /// Nothing, since its line is refused by this name.
+    /// Nothing, since its line or its cookie is refused by this name.
     Refused(RefusalName),
 }
 
-/// What a step asks.
-pub fn ask_of(alloc: Global, step: &Step) -> Result<Ask, NoMemory>
-    ensures { IfOk result (λ ask. ask ≡ spec.ask_of step.entry.now) }
+/// What a step asks by the suffix rules. A line is read here, once.
+///
+/// Only want of memory refuses. This jar's own rule: docs/DEFINITIONS.md.
+pub fn ask_of(alloc: Global, suffixes: &Suffixes, step: &Step) -> Result<Ask, NoMemory>
+    ensures { IfOk result (λ ask. ask ≡ spec.ask_of suffixes.now step.entry.now) }
 {
     match &step.what {
-        What::Set { place, line } => ask_of_line(alloc, place, step.now, line),
-        What::Get { place } => Ok(Ask::Op(Op::Get(request_of(alloc, place)?))),
+        What::Set { ask, line } => ask_of_text(alloc, suffixes, ask, step.now, line),
+        What::Get { ask } => Ok(Ask::Op(Op::Get(request_of(alloc, ask)?))),
     }
 }
 
 /// What a set of this line asks.
-fn ask_of_line(alloc: Global, place: &Place, now: Moment, line: &SetLine) -> Result<Ask, NoMemory>
-    ensures { IfOk result (λ ask. ask ≡ spec.ask_of_line place.entry.now now line.entry.now) }
+fn ask_of_text(
+    alloc: Global,
+    suffixes: &Suffixes,
+    ask: &FetchAsk,
+    now: Moment,
+    line: &ShortText,
+) -> Result<Ask, NoMemory>
+    ensures { IfOk result (λ a. a
+        ≡ spec.ask_of_line suffixes.now ask.entry.now now (line_read line.now)) }
 {
-    match line {
-        SetLine::Bare { name, value } => Ok(Ask::Op(set_op(alloc, place, now, name, value)?)),
-        SetLine::Refused(name) => Ok(Ask::Refused(*name)),
+    match read_line(alloc, line.as_str()) {
+        Ok(line) => ask_of_line(alloc, suffixes, ask, now, &line),
+        Err(refusal) => Ok(Ask::Refused(RefusalName::of_line(refusal)?)),
     }
 }
 
-/// The op of a set.
-fn set_op(
+/// What a set of a line that reads so asks.
+fn ask_of_line(
     alloc: Global,
-    place: &Place,
+    suffixes: &Suffixes,
+    ask: &FetchAsk,
     now: Moment,
-    name: &Text,
-    value: &Text,
-) -> Result<Op, NoMemory>
-    ensures { IfOk result (λ op. op ≡ spec.set_op place.entry.now now name.now value.now) }
+    line: &Line,
+) -> Result<Ask, NoMemory>
+    ensures { IfOk result (λ a. a
+        ≡ spec.ask_of_line suffixes.now ask.entry.now now (Ok line.entry.now)) }
 {
-    Ok(Op::Set {
-        cookie: cookie_of(alloc, place, now, name, value)?,
-        script: false,
-        secure: place.scheme.is_secure(),
-    })
-}
-
-/// The cookie of a set.
-fn cookie_of(
-    alloc: Global,
-    place: &Place,
-    now: Moment,
-    name: &Text,
-    value: &Text,
-) -> Result<Cookie, NoMemory>
-    ensures { IfOk result (λ c. c ≡ spec.cookie_of place.entry.now now name.now value.now) }
-{
-    Ok(Cookie {
-        key: place.key.copy(alloc)?,
-        host: place.host.copy(alloc)?,
-        name: name.copy(alloc)?,
-        path: Text::of(alloc, default_path(place.path.as_str()))?,
-        value: value.copy(alloc)?,
-        creation: now,
-        access: now,
-        expiry: None,
-        secure: false,
-        http_only: false,
-        same_site: SameSite::Unspecified,
-        priority: Priority::Medium,
-    })
+    match make(alloc, suffixes, line, &ask.place, context(ask), false, now) {
+        Ok(cookie) => Ok(Ask::Op(Op::Set {
+            cookie,
+            script: false,
+            secure: ask.place.scheme.is_secure(),
+        })),
+        Err(refusal) => Ok(Ask::Refused(RefusalName::of_cookie(refusal)?)),
+    }
 }
 
 /// The request of a get.
-fn request_of(alloc: Global, place: &Place) -> Result<Request, NoMemory>
-    ensures { IfOk result (λ q. q ≡ spec.request_of place.entry.now) }
+fn request_of(alloc: Global, ask: &FetchAsk) -> Result<Request, NoMemory>
+    ensures { IfOk result (λ q. q ≡ spec.request_of ask.entry.now) }
 {
     Ok(Request {
-        key: place.key.copy(alloc)?,
-        host: place.host.copy(alloc)?,
-        path: place.path.copy(alloc)?,
-        secure: place.scheme.is_secure(),
+        key: ask.place.key.copy(alloc)?,
+        host: ask.place.host.copy(alloc)?,
+        path: ask.place.path.copy(alloc)?,
+        secure: ask.place.scheme.is_secure(),
         script: false,
-        context: Context::Strict,
+        context: context(ask),
     })
 }

@@ -5,6 +5,7 @@ mod answer;
 mod ask;
 mod law;
 mod refusal_line;
+mod refusal_name;
 mod report;
 mod run;
 mod status;

@@ -10,19 +10,21 @@ ghost use Rattle.script_run.specs.declared.text.step.TheConstants.{MOST_STEPS};
 use crate::ask::{Ask, ask_of};
 use crate::report::Report;
 use crate::report::item::Item;
+use crate::text::script::Script;
 use crate::text::step::Step;
 use jar_types::{CoreRefusal, Event, JarCore, Journal, Moment, NoMemory, Op, Own, Texts};
+use public_suffix::Suffixes;
 use std::alloc::Global;
 
-/// The report of these steps.
-pub fn serial<C: JarCore + Drop>(alloc: Global, steps: &[Step]) -> Result<Report, NoMemory>
-    requires { length steps.now ≤ MOST_STEPS }
-    ensures { IfOk result (λ r. spec.IsHistory steps.now r.items.items r.journal.list) }
+/// The report of a script.
+pub fn serial<C: JarCore + Drop>(alloc: Global, script: &Script) -> Result<Report, NoMemory>
+    requires { length script.now.steps ≤ MOST_STEPS }
+    ensures { IfOk result (λ r. spec.IsHistory script.entry.now r.items.items r.journal.list) }
 {
     let mut run = begin::<C>(alloc)?;
-    one_round(alloc, &mut run, steps)?;
-    'rounds: while run.items.len() < steps.len() {
-        one_round(alloc, &mut run, steps)?;
+    one_round(alloc, &mut run, script)?;
+    'rounds: while run.items.len() < script.steps.len() {
+        one_round(alloc, &mut run, script)?;
     }
     Ok(Report {
         items: run.items,
@@ -53,14 +55,14 @@ fn begin<C: JarCore + Drop>(alloc: Global) -> Result<Run<C>, NoMemory>
 fn one_round<C: JarCore + Drop>(
     alloc: Global,
     run: &mut Run<C>,
-    steps: &[Step],
+    script: &Script,
 ) -> Result<(), NoMemory>
     requires room { (C.state run.old.core).entries < 2 ^ 64 - 2 }
     ensures { OnOk result (spec.run_of (C.state run.new.core) run.new.journal.list run.new.items.items
-        ≡ spec.round steps.now
+        ≡ spec.round script.entry.now
         (spec.run_of (C.state run.old.core) run.old.journal.list run.old.items.items)) }
 {
-    try_next(alloc, run, steps)?;
+    try_next(alloc, run, script)?;
     load(alloc, run)
 }
 
@@ -68,29 +70,34 @@ fn one_round<C: JarCore + Drop>(
 fn try_next<C: JarCore + Drop>(
     alloc: Global,
     run: &mut Run<C>,
-    steps: &[Step],
+    script: &Script,
 ) -> Result<(), NoMemory>
     requires room { (C.state run.old.core).entries < 2 ^ 64 - 1 }
     ensures tried { OnOk result (spec.run_of (C.state run.new.core) run.new.journal.list run.new.items.items
-        ≡ spec.tried steps.now
+        ≡ spec.tried script.entry.now
         (spec.run_of (C.state run.old.core) run.old.journal.list run.old.items.items)) }
     ensures entries { OnOk result ((C.state run.new.core).entries ≤ (C.state run.old.core).entries + 1) }
 {
-    match steps.get(run.items.len()) {
-        Some(step) => try_step(alloc, run, step),
+    match script.steps.get(run.items.len()) {
+        Some(step) => try_step(alloc, run, &script.suffixes, step),
         None => Ok(()),
     }
 }
 
-/// The fetch tries a step, and notes its item.
-fn try_step<C: JarCore + Drop>(alloc: Global, run: &mut Run<C>, step: &Step) -> Result<(), NoMemory>
+/// The fetch tries a step by the suffix rules, and notes its item.
+fn try_step<C: JarCore + Drop>(
+    alloc: Global,
+    run: &mut Run<C>,
+    suffixes: &Suffixes,
+    step: &Step,
+) -> Result<(), NoMemory>
     requires room { (C.state run.old.core).entries < 2 ^ 64 - 1 }
     ensures asked { OnOk result (spec.run_of (C.state run.new.core) run.new.journal.list run.new.items.items
         ≡ spec.asked (spec.run_of (C.state run.old.core) run.old.journal.list run.old.items.items)
-        step.entry.now.now (asks.ask_of step.entry.now)) }
+        step.entry.now.now (asks.ask_of suffixes.now step.entry.now)) }
     ensures entries { OnOk result ((C.state run.new.core).entries ≤ (C.state run.old.core).entries + 1) }
 {
-    match ask_of(alloc, step)? {
+    match ask_of(alloc, suffixes, step)? {
         Ask::Op(op) => call(alloc, run, step.now, op),
         Ask::Refused(name) => {
             run.items.push(Item::Refused(name))?;

@@ -2,6 +2,10 @@
 
 ghost use Rattle.std.specs.Prelude.{◌≤◌};
 
+mod asks;
+mod lines;
+mod scripts;
+
 use crate::serial_tool;
 use jar_edge::{MemSink, MemSource};
 use std::alloc::Global;
@@ -18,7 +22,8 @@ struct Outcome {
     written: Vec<u8>,
 }
 
-/// A run of `serial` whose reads and writes fail at these numbers, and whose writes take `piece` bytes.
+/// A run of `serial` whose reads and writes fail at these numbers, and whose writes take `piece`
+/// bytes.
 fn run_serial(
     alloc: Global,
     input: &str,
@@ -89,7 +94,7 @@ fn other_words_get_the_usage_line(rt: HostRuntime) -> Result<(), Fail> {
 const NOT_JSON: [&str; 3] = ["{\"actors\":[", "", "{\"actors\":[]} ,"];
 
 /// Inputs that are JSON and not of the form: the root, the actors, the actor and its steps.
-const NOT_BUILT: [&str; 12] = [
+const NOT_BUILT: [&str; 14] = [
     "[]",
     "{\"actors\":[]}",
     "{\"actors\":{}}",
@@ -101,7 +106,9 @@ const NOT_BUILT: [&str; 12] = [
     "{\"actors\":[{\"kind\":\"fetch\",\"steps\":[{\"now\":1.5,\"op\":\"get\",\"url\":\"http://h.test/\"}]}]}",
     "{\"actors\":[{\"kind\":\"fetch\",\"steps\":[{\"now\":253402300800000,\"op\":\"get\",\"url\":\"http://h.test/\"}]}]}",
     "{\"actors\":[{\"kind\":\"fetch\",\"steps\":[{\"now\":1,\"op\":\"get\",\"url\":5}]}]}",
-    "{\"actors\":[{\"kind\":\"fetch\",\"steps\":[{\"line\":\"a=1; Path=/\",\"now\":1,\"op\":\"set\",\"url\":\"http://h.test/\"}]}]}",
+    "{\"actors\":[{\"kind\":\"fetch\",\"steps\":[{\"line\":\"a=1\",\"mode\":\"cors\",\"now\":1,\"op\":\"set\",\"url\":\"http://h.test/\"}]}]}",
+    "{\"actors\":[{\"kind\":\"fetch\",\"steps\":[{\"initiator\":null,\"now\":1,\"op\":\"get\",\"url\":\"http://h.test/\"}]}]}",
+    "{\"actors\":[{\"kind\":\"fetch\",\"steps\":[{\"method\":1,\"now\":1,\"op\":\"get\",\"url\":\"http://h.test/\"}]}]}",
 ];
 
 #[test]
@@ -130,17 +137,17 @@ fn what_is_of_another_form_is_named(rt: HostRuntime) -> Result<(), Fail> {
     Ok(())
 }
 
-/// A set whose line has a CR, and a get.
-const REFUSED_LINE: &str =
-    "{\"actors\":[{\"kind\":\"fetch\",\"steps\":[{\"line\":\"a=1\\r\",\"now\":1,\"op\":\"set\",\"url\":\"http://h.test/\"},{\"now\":1,\"op\":\"get\",\"url\":\"http://h.test/\"}]}]}";
+/// A set whose line has a CR, one whose cookie is Secure at a place that isn't, and a get.
+const REFUSED_LINES: &str =
+    "{\"actors\":[{\"kind\":\"fetch\",\"steps\":[{\"line\":\"a=1\\r\",\"now\":1,\"op\":\"set\",\"url\":\"http://h.test/\"},{\"line\":\"a=1; Secure\",\"now\":1,\"op\":\"set\",\"url\":\"http://h.test/\"},{\"now\":1,\"op\":\"get\",\"url\":\"http://h.test/\"}]}]}";
 
 #[test]
-fn a_refused_line_has_an_item_and_no_entry(rt: HostRuntime) -> Result<(), Fail> {
-    let run = run_serial(rt.alloc(), REFUSED_LINE, &[], 64, &[])?;
+fn a_refused_set_has_an_item_and_no_entry(rt: HostRuntime) -> Result<(), Fail> {
+    let run = run_serial(rt.alloc(), REFUSED_LINES, &[], 64, &[])?;
     assert_eq!(rt; run.status, 0);
     assert!(rt;
         run.written.as_slice().starts_with(
-            b"{\"actors\":[[{\"refused\":\"Control\"},{\"at\":2}]],\"hosts\":[],\"journal\":[{\"now\":0,\"own\":\"whole\"},{"
+            b"{\"actors\":[[{\"refused\":\"Control\"},{\"refused\":\"SecureFromInsecure\"},{\"at\":2}]],\"hosts\":[],\"journal\":[{\"now\":0,\"own\":\"whole\"},{"
         )
     );
     Ok(())

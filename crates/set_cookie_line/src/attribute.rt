@@ -2,12 +2,11 @@
 
 ghost use Rattle.std.specs.Prelude.{◌≡◌, option_copied, option_map};
 ghost use Rattle.std.specs.Str.{str_to_ascii_lowercase};
-ghost use Rattle.jar_values.specs.Hosts.{undotted};
 ghost use Rattle.set_cookie_line.specs.Attribute as spec;
 
 use crate::blanks::trim;
 use crate::cut::cut;
-use jar_values::{Priority, SameSite};
+use jar_values::{Priority, SameSite, undotted};
 
 /// The most bytes of an attribute's value, after its blanks are removed.
 ///
@@ -74,7 +73,7 @@ pub fn read_domain(value: &str) -> Option<&str>
     ensures { option_map str_to_ascii_lowercase (option_copied result)
         ≡ spec.read_domain value.now }
 {
-    let domain = without_dot(value);
+    let domain = undotted(value);
     if domain.is_empty() {
         None
     } else {
@@ -124,16 +123,5 @@ pub fn read_priority(value: &str) -> Priority
         Priority::High
     } else {
         Priority::Medium
-    }
-}
-
-/// A Domain value without one dot in front.
-fn without_dot(value: &str) -> &str
-    ensures { result.now ≡ undotted value.now }
-{
-    if value.starts_with(".") {
-        &value[1..]
-    } else {
-        value
     }
 }

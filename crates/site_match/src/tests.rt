@@ -1,5 +1,8 @@
 //! Places, matches and contexts as tables. The values are from the URL Standard, RFC 6265 and this
 //! jar's own rules.
+//!
+//! A value that owns texts is made, looked at and dropped by a call in a small function: elsewhere
+//! the proof has a case for each of its forms.
 
 use crate::fetch::{FetchAsk, context};
 use crate::host::domain_match;
@@ -8,102 +11,84 @@ use crate::path::{default_path, path_match};
 use crate::place::{Place, PlaceRefusal};
 use crate::scheme::Scheme;
 use jar_types::{Context, Cookie, Request};
-use jar_values::{Moment, NoMemory, Priority, SameSite, Text};
+use jar_values::{Moment, Priority, SameSite, Text};
 use public_suffix::Suffixes;
 use std::alloc::Global;
 use std::process::Abort;
-use std::test::Fail;
 
-/// The place of a text by the rules `test` and `co.uk`.
-fn place(alloc: Global, text: &str) -> Result<Place, PlaceRefusal> {
-    match Suffixes::read(alloc, "test\nco.uk") {
-        Ok(suffixes) if text.len() < 1000 => Place::read(alloc, &suffixes, text),
-        _ => Err(PlaceRefusal::NoMemory),
-    }
+/// The place of a text of less than 1,000 bytes by the rules `test` and `co.uk`.
+fn place(rt: &impl Abort, alloc: Global, text: &str) -> Result<Place, PlaceRefusal> {
+    assert!(rt; text.len() < 1000);
+    let suffixes = Suffixes::read(alloc, "test\nco.uk").expect(rt, "a list");
+    let place = Place::read(alloc, &suffixes, text);
+    drop(suffixes);
+    place
 }
 
-/// The copy of a text's place has this scheme and port, and this host, path and key.
+/// Whether the copy of a text's place has this scheme and port, and this host, path and key.
 fn reads(
     rt: &impl Abort,
     alloc: Global,
     text: &str,
     scheme: Scheme,
     port: u16,
-    [host, path, key]: [&str; 3],
-) -> Result<(), Fail> {
-    let place = place(alloc, text)?.copy(alloc)?;
-    assert!(rt; place.scheme == scheme && place.port == port, "{text}");
-    assert_eq!(rt; place.host.as_str(), host);
-    assert_eq!(rt; place.path.as_str(), path);
-    assert_eq!(rt; place.key.as_str(), key);
-    Ok(())
+    texts: (&str, &str, &str),
+) -> bool {
+    let place = place(rt, alloc, text).expect(rt, "a place");
+    let copy = place.copy(alloc).expect(rt, "memory for a copy");
+    drop(place);
+    let same = copy.scheme == scheme && copy.port == port && has_texts(&copy, texts);
+    drop(copy);
+    same
+}
+
+/// Whether a place has this host, path and key.
+fn has_texts(place: &Place, (host, path, key): (&str, &str, &str)) -> bool {
+    place.host.as_str() == host && place.path.as_str() == path && place.key.as_str() == key
 }
 
 #[test]
-fn a_place_is_what_its_url_says(rt: HostRuntime) -> Result<(), Fail> {
-    let alloc = rt.alloc();
+fn a_place_is_what_its_url_says(rt: HostRuntime) {
     let (http, https) = (Scheme::Http, Scheme::Https);
-    reads(
-        &rt,
-        alloc,
-        "http://www.H.test/a/b?q#f",
-        http,
-        80,
-        ["www.h.test", "/a/b", "h.test"],
-    )?;
-    reads(
-        &rt,
-        alloc,
-        "https://u:p@h.test:8443/",
-        https,
-        8443,
-        ["h.test", "/", "h.test"],
-    )?;
-    reads(
-        &rt,
-        alloc,
-        "https://h.test:443",
-        https,
-        443,
-        ["h.test", "/", "h.test"],
-    )?;
-    reads(
-        &rt,
-        alloc,
-        "ws://0x7f.1/",
-        Scheme::Ws,
-        80,
-        ["127.0.0.1", "/", "127.0.0.1"],
-    )?;
-    reads(
-        &rt,
-        alloc,
-        "http://1.2.3/",
-        http,
-        80,
-        ["1.2.0.3", "/", "1.2.0.3"],
-    )?;
     let six = "[2001:db8::1]";
-    reads(
-        &rt,
-        alloc,
-        "wss://[2001:DB8::1]/%7e a",
-        Scheme::Wss,
-        443,
-        [six, "/%7e%20a", six],
-    )?;
-    reads(&rt, alloc, "http://a.b./", http, 80, ["a.b.", "/", "a.b."])?;
-    let coded = ["w.xn--bcher-kva.test", "/", "xn--bcher-kva.test"];
-    reads(&rt, alloc, "http://w.b\u{fc}cher.test/", http, 80, coded)?;
-    reads(
-        &rt,
-        alloc,
-        "http://w.a.co.uk/",
-        http,
-        80,
-        ["w.a.co.uk", "/", "a.co.uk"],
-    )?;
-    Ok(())
+    for (text, scheme, port, texts) in [
+        (
+            "http://www.H.test/a/b?q#f",
+            http,
+            80,
+            ("www.h.test", "/a/b", "h.test"),
+        ),
+        (
+            "https://u:p@h.test:8443/",
+            https,
+            8443,
+            ("h.test", "/", "h.test"),
+        ),
+        ("https://h.test:443", https, 443, ("h.test", "/", "h.test")),
+        (
+            "ws://0x7f.1/",
+            Scheme::Ws,
+            80,
+            ("127.0.0.1", "/", "127.0.0.1"),
+        ),
+        ("http://1.2.3/", http, 80, ("1.2.0.3", "/", "1.2.0.3")),
+        (
+            "wss://[2001:DB8::1]/%7e a",
+            Scheme::Wss,
+            443,
+            (six, "/%7e%20a", six),
+        ),
+        ("http://a.b./", http, 80, ("a.b.", "/", "a.b.")),
+        (
+            "http://w.b\u{fc}cher.test/",
+            http,
+            80,
+            ("w.xn--bcher-kva.test", "/", "xn--bcher-kva.test"),
+        ),
+        ("http://w.a.co.uk/", http, 80, ("w.a.co.uk", "/", "a.co.uk")),
+    ] {
+        assert!(rt; reads(&rt, rt.alloc(), text, scheme, port, texts), "{text}");
+    }
 }
 
 #[test]
@@ -119,7 +104,8 @@ fn a_text_is_refused_for_its_first_cause(rt: HostRuntime) {
         ("http://.h.test/", PlaceRefusal::DotHost),
         ("http://./", PlaceRefusal::DotHost),
     ] {
-        assert_eq!(rt; place(rt.alloc(), text).err(), Some(refusal), "{text}");
+        let found = place(&rt, rt.alloc(), text).err();
+        assert_eq!(rt; found, Some(refusal), "{text}");
     }
 }
 
@@ -172,15 +158,20 @@ fn paths_match_up_to_a_slash(rt: HostRuntime) {
     }
 }
 
+/// A text.
+fn text(rt: &impl Abort, alloc: Global, source: &str) -> Text {
+    Text::of(alloc, source).expect(rt, "memory for a text")
+}
+
 /// A cookie of the key `h.test`, made at 5, for a host and a path, that is Secure and HttpOnly.
-fn cookie(alloc: Global, host: &str, path: &str, same_site: SameSite) -> Result<Cookie, NoMemory> {
-    let made = Moment::of(5).ok_or(NoMemory)?;
-    Ok(Cookie {
-        key: Text::of(alloc, "h.test")?,
-        host: Text::of(alloc, host)?,
-        name: Text::of(alloc, "a")?,
-        path: Text::of(alloc, path)?,
-        value: Text::of(alloc, "1")?,
+fn cookie(rt: &impl Abort, alloc: Global, host: &str, path: &str, same_site: SameSite) -> Cookie {
+    let made = Moment::of(5).expect(rt, "a moment");
+    Cookie {
+        key: text(rt, alloc, "h.test"),
+        host: text(rt, alloc, host),
+        name: text(rt, alloc, "a"),
+        path: text(rt, alloc, path),
+        value: text(rt, alloc, "1"),
         creation: made,
         access: made,
         expiry: None,
@@ -188,23 +179,31 @@ fn cookie(alloc: Global, host: &str, path: &str, same_site: SameSite) -> Result<
         http_only: true,
         same_site,
         priority: Priority::Medium,
-    })
+    }
 }
 
 /// The request of `https://www.h.test/a/b` under a key, in a context.
-fn request(alloc: Global, key: &str, secure: bool, context: Context) -> Result<Request, NoMemory> {
-    Ok(Request {
-        key: Text::of(alloc, key)?,
-        host: Text::of(alloc, "www.h.test")?,
-        path: Text::of(alloc, "/a/b")?,
+fn request(rt: &impl Abort, alloc: Global, key: &str, secure: bool, context: Context) -> Request {
+    Request {
+        key: text(rt, alloc, key),
+        host: text(rt, alloc, "www.h.test"),
+        path: text(rt, alloc, "/a/b"),
         secure,
         script: false,
         context,
-    })
+    }
+}
+
+/// Whether a request gets a cookie at a moment in milliseconds. Both are dropped.
+fn gets(rt: &impl Abort, asked: Request, kept: Cookie, ms: u64) -> bool {
+    let found = matches(&asked, &kept, Moment::of(ms).expect(rt, "a moment"));
+    drop(asked);
+    drop(kept);
+    found
 }
 
 #[test]
-fn a_request_gets_the_cookies_of_its_key_host_and_path(rt: HostRuntime) -> Result<(), Fail> {
+fn a_request_gets_the_cookies_of_its_key_host_and_path(rt: HostRuntime) {
     for (key, secure, host, path, wanted) in [
         ("h.test", true, ".h.test", "/a", true),
         ("h.test", true, "www.h.test", "/", true),
@@ -214,29 +213,33 @@ fn a_request_gets_the_cookies_of_its_key_host_and_path(rt: HostRuntime) -> Resul
         ("h.test", false, ".h.test", "/a", false),
         ("s3.h.test", true, ".h.test", "/a", false),
     ] {
-        let asked = request(rt.alloc(), key, secure, Context::Cross)?;
-        let kept = cookie(rt.alloc(), host, path, SameSite::NoLimit)?;
-        let now = Moment::of(9).ok_or("a moment")?;
-        assert_eq!(rt; matches(&asked, &kept, now), wanted, "{key} {host} {path}");
+        let asked = request(&rt, rt.alloc(), key, secure, Context::Cross);
+        let kept = cookie(&rt, rt.alloc(), host, path, SameSite::NoLimit);
+        assert_eq!(rt; gets(&rt, asked, kept, 9), wanted, "{key} {host} {path}");
     }
-    Ok(())
+}
+
+/// Whether a request, of a script or not, gets a cookie that is HttpOnly or not.
+fn script_gets(rt: &impl Abort, alloc: Global, script: bool, http_only: bool) -> bool {
+    let mut asked = request(rt, alloc, "h.test", true, Context::Strict);
+    let mut kept = cookie(rt, alloc, ".h.test", "/", SameSite::Strict);
+    asked.script = script;
+    kept.http_only = http_only;
+    gets(rt, asked, kept, 9)
 }
 
 #[test]
-fn a_script_gets_no_cookie_that_is_http_only(rt: HostRuntime) -> Result<(), Fail> {
-    let mut asked = request(rt.alloc(), "h.test", true, Context::Strict)?;
-    let mut kept = cookie(rt.alloc(), ".h.test", "/", SameSite::Strict)?;
-    let now = Moment::of(9).ok_or("a moment")?;
-    assert!(rt; matches(&asked, &kept, now), "no script");
-    asked.script = true;
-    assert!(rt; !matches(&asked, &kept, now), "a script");
-    kept.http_only = false;
-    assert!(rt; matches(&asked, &kept, now), "a script and another cookie");
-    Ok(())
+fn a_script_gets_no_cookie_that_is_http_only(rt: HostRuntime) {
+    assert!(rt; script_gets(&rt, rt.alloc(), false, true), "no script");
+    assert!(rt; !script_gets(&rt, rt.alloc(), true, true), "a script");
+    assert!(rt;
+        script_gets(&rt, rt.alloc(), true, false),
+        "a script and another cookie"
+    );
 }
 
 #[test]
-fn same_site_goes_by_the_context(rt: HostRuntime) -> Result<(), Fail> {
+fn same_site_goes_by_the_context(rt: HostRuntime) {
     for (same_site, context, ms, wanted) in [
         (SameSite::NoLimit, Context::Cross, 9, true),
         (SameSite::Strict, Context::Strict, 9, true),
@@ -246,34 +249,35 @@ fn same_site_goes_by_the_context(rt: HostRuntime) -> Result<(), Fail> {
         (SameSite::Unspecified, Context::LaxUnsafe, 120_005, true),
         (SameSite::Unspecified, Context::LaxUnsafe, 120_006, false),
     ] {
-        let asked = request(rt.alloc(), "h.test", true, context)?;
-        let kept = cookie(rt.alloc(), ".h.test", "/", same_site)?;
-        let now = Moment::of(ms).ok_or("a moment")?;
-        assert_eq!(rt; matches(&asked, &kept, now), wanted, "{ms}");
+        let asked = request(&rt, rt.alloc(), "h.test", true, context);
+        let kept = cookie(&rt, rt.alloc(), ".h.test", "/", same_site);
+        assert_eq!(rt; gets(&rt, asked, kept, ms), wanted, "{ms}");
     }
-    Ok(())
 }
 
 /// The context of a fetch on `https://h.test/` with another place as its site for cookies and its
 /// initiator.
 fn context_from(
+    rt: &impl Abort,
     alloc: Global,
     from: &str,
     navigation: bool,
     safe_method: bool,
-) -> Result<Context, PlaceRefusal> {
+) -> Context {
     let ask = FetchAsk {
-        place: place(alloc, "https://h.test/")?,
-        site: place(alloc, from).ok(),
-        initiator: place(alloc, from).ok(),
+        place: place(rt, alloc, "https://h.test/").expect(rt, "a place"),
+        site: place(rt, alloc, from).ok(),
+        initiator: place(rt, alloc, from).ok(),
         safe_method,
         navigation,
     };
-    Ok(context(&ask))
+    let found = context(&ask);
+    drop(ask);
+    found
 }
 
 #[test]
-fn a_context_goes_by_navigation_site_and_method(rt: HostRuntime) -> Result<(), Fail> {
+fn a_context_goes_by_navigation_site_and_method(rt: HostRuntime) {
     for (from, navigation, safe_method, wanted) in [
         ("", false, true, Context::Cross),
         ("", true, false, Context::Strict),
@@ -284,8 +288,7 @@ fn a_context_goes_by_navigation_site_and_method(rt: HostRuntime) -> Result<(), F
         ("https://x.test/", false, true, Context::Cross),
         ("https://x.test/", true, false, Context::LaxUnsafe),
     ] {
-        let found = context_from(rt.alloc(), from, navigation, safe_method)?;
+        let found = context_from(&rt, rt.alloc(), from, navigation, safe_method);
         assert_eq!(rt; found, wanted, "{from}");
     }
-    Ok(())
 }

@@ -97,12 +97,16 @@ fn write_get(out: &mut Writer, request: &Request) -> Result<(), AllocError>
 }
 
 /// Writes a reply.
-fn write_reply(out: &mut Writer, reply: &Reply) -> Result<(), AllocError>
+pub fn write_reply(out: &mut Writer, reply: &Reply) -> Result<(), AllocError>
     ensures { WritesData result out.old out.new (reply_data reply.now) }
 {
     match reply {
         Reply::Stored => out.string("stored"),
         Reply::Replaced => out.string("replaced"),
+        Reply::Removed => out.string("removed"),
+        Reply::NothingThere => out.string("nothing_there"),
+        Reply::OverwriteSecure => out.string("overwrite_secure"),
+        Reply::OverwriteHttpOnly => out.string("overwrite_http_only"),
         Reply::Cookies(cookies) => {
             out.begin_object()?;
             out.key("cookies")?;

@@ -3,11 +3,11 @@
 ghost use Rattle.std.specs.Prelude.{◌≡◌, map};
 ghost use Rattle.serde_json.specs.Data.{array};
 ghost use Rattle.serde_json.specs.View.{items_of};
-ghost use Rattle.script_run.specs.Reports.{item_data, refusal_word};
+ghost use Rattle.script_run.specs.Reports.{item_data};
 ghost use Rattle.script_run.specs.ReportTokens.{WritesData};
 
 use super::member::{write_count, write_word};
-use crate::text::set_line::RefusalName;
+use crate::refusal_name::RefusalName;
 use json::Writer;
 use std::alloc::AllocError;
 
@@ -16,7 +16,7 @@ use std::alloc::AllocError;
 pub enum Item {
     /// The place of its entry in the journal, counted from 1.
     At(u64),
-    /// Its line is refused by this name.
+    /// It is refused by this name.
     Refused(RefusalName),
 }
 
@@ -38,18 +38,7 @@ fn write_item(out: &mut Writer, item: Item) -> Result<(), AllocError>
     out.begin_object()?;
     match item {
         Item::At(place) => write_count(out, "at", place)?,
-        Item::Refused(name) => write_word(out, "refused", refusal_word(name))?,
+        Item::Refused(name) => write_word(out, "refused", name.word())?,
     }
     out.end_object()
-}
-
-/// The word of a refusal.
-fn refusal_word(name: RefusalName) -> &'static str
-    ensures { result.now ≡ refusal_word name }
-{
-    match name {
-        RefusalName::Control => "Control",
-        RefusalName::Empty => "Empty",
-        RefusalName::TooLong => "TooLong",
-    }
 }

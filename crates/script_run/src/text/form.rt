@@ -6,9 +6,9 @@ ghost use Rattle.jar_values.specs.declared.text.TheConstants.{TEXT_END};
 ghost use Rattle.script_run.specs.Text.Form as spec;
 ghost use Rattle.script_run.specs.Text.Form.{Reads};
 
+use crate::text::ask_form::{ask_of, optional_count};
 use crate::text::draft::{Draft, DraftStep, DraftSteps, DraftWhat};
-use crate::text::member::{now_of, short_text, size, text_at, url_of};
-use crate::text::set_line::{SetLine, set_line};
+use crate::text::member::{now_of, short_text_at, short_text_of, size, text_at};
 use crate::text::short_text::ShortText;
 use crate::text::step::MOST_STEPS;
 use jar_types::NoMemory;
@@ -59,39 +59,25 @@ pub fn draft_of(alloc: Global, value: &Value) -> Result<Draft, FormRefusal>
     }
 }
 
-/// The line of the member `line`, as it reads.
-fn line_of(alloc: Global, value: &Value) -> Result<Option<SetLine>, NoMemory>
-    ensures { IfOk result (λ line. line ≡ spec.line_of (view value.now)) }
-{
-    let Some(text) = text_at(value, "line") else {
-        return Ok(None);
-    };
-    match short_text(text) {
-        Some(line) => set_line(alloc, line),
-        None => Ok(None),
-    }
-}
-
 /// The set that a step is.
 fn set_of(alloc: Global, value: &Value) -> Result<DraftStep, FormRefusal>
     ensures { Reads (spec.set_of (view value.now)) result }
 {
-    if size(value) != 4 {
+    if size(value) != 4 + optional_count(value) {
         return Err(FormRefusal::NotBuilt);
     }
     let Some(now) = now_of(value) else {
         return Err(FormRefusal::NotBuilt);
     };
-    let Some(url) = url_of(value) else {
-        return Err(FormRefusal::NotBuilt);
-    };
-    let Some(line) = line_of(alloc, value)? else {
+    let Some(line) = short_text_at(value, "line") else {
         return Err(FormRefusal::NotBuilt);
     };
     Ok(DraftStep {
         now,
-        url: ShortText::of(alloc, url)?,
-        what: DraftWhat::Set { line },
+        ask: ask_of(alloc, value)?,
+        what: DraftWhat::Set {
+            line: ShortText::of(alloc, line)?,
+        },
     })
 }
 
@@ -99,18 +85,15 @@ fn set_of(alloc: Global, value: &Value) -> Result<DraftStep, FormRefusal>
 fn get_of(alloc: Global, value: &Value) -> Result<DraftStep, FormRefusal>
     ensures { Reads (spec.get_of (view value.now)) result }
 {
-    if size(value) != 3 {
+    if size(value) != 3 + optional_count(value) {
         return Err(FormRefusal::NotBuilt);
     }
     let Some(now) = now_of(value) else {
         return Err(FormRefusal::NotBuilt);
     };
-    let Some(url) = url_of(value) else {
-        return Err(FormRefusal::NotBuilt);
-    };
     Ok(DraftStep {
         now,
-        url: ShortText::of(alloc, url)?,
+        ask: ask_of(alloc, value)?,
         what: DraftWhat::Get,
     })
 }
@@ -216,12 +199,9 @@ fn suffixes_from(suffixes: Option<&Value>) -> Option<&str>
         ≡ spec.suffixes_from (option_map (λ member. view member.now) suffixes.entry) }
     ensures short { MatchOption result (Unit {0}) (λ text. length text.now < TEXT_END) }
 {
-    let Some(member) = suffixes else {
-        return Some("");
-    };
-    match member.as_str() {
-        Some(text) => short_text(text),
-        None => None,
+    match suffixes {
+        Some(member) => short_text_of(member),
+        None => Some(""),
     }
 }
 

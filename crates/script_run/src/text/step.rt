@@ -1,13 +1,13 @@
 //! The steps of a script.
 
-use crate::text::set_line::SetLine;
+use crate::text::short_text::ShortText;
 use jar_types::{Listed, Moment};
-use site_match::Place;
+use site_match::FetchAsk;
 
 /// The most steps of a script.
 ///
 /// This jar's own rule: docs/DEFINITIONS.md.
-pub const MOST_STEPS: usize = 180;
+pub const MOST_STEPS: usize = 20_000;
 
 /// A step of the fetch: what it does, at a moment.
 #[derive(Drop)]
@@ -19,8 +19,8 @@ pub struct Step {
 /// What a step does: it sets a cookie by a Set-Cookie line, or gets those of a place.
 #[derive(Drop)]
 pub enum What {
-    Set { place: Place, line: SetLine },
-    Get { place: Place },
+    Set { ask: FetchAsk, line: ShortText },
+    Get { ask: FetchAsk },
 }
 
 /// Steps in their order, seen as their list.

@@ -1,8 +1,22 @@
 //! Values from the 6265bis draft, section 5.6, from RFC 6265, section 3.1, and from the rules of
 //! docs/DEFINITIONS.md.
+//!
+//! A line is read, looked at and dropped by a call in a small function: elsewhere the proof has a
+//! case for each of its forms.
 use super::{Line, LineRefusal, read_line};
 use jar_values::{Moment, Priority, SameSite, Text};
-use std::test::Fail;
+use std::alloc::Global;
+use std::process::Abort;
+
+/// The line of a text that isn't refused.
+fn line(rt: &impl Abort, alloc: Global, text: &str) -> Line {
+    read_line(alloc, text).expect(rt, "a line")
+}
+
+/// The refusal of a text, if it is refused.
+fn refusal_of(alloc: Global, text: &str) -> Option<LineRefusal> {
+    read_line(alloc, text).err()
+}
 
 /// The text, or `none` where there is none.
 fn text_of(text: &Option<Text>) -> &str {
@@ -12,8 +26,16 @@ fn text_of(text: &Option<Text>) -> &str {
     }
 }
 
+/// Whether a text has this name and this value.
+fn has_pair(rt: &impl Abort, alloc: Global, text: &str, name: &str, value: &str) -> bool {
+    let line = line(rt, alloc, text);
+    let same = line.name.as_str() == name && line.value.as_str() == value;
+    drop(line);
+    same
+}
+
 #[test]
-fn a_pair_is_divided_at_its_first_equals_sign(rt: HostRuntime) -> Result<(), Fail> {
+fn a_pair_is_divided_at_its_first_equals_sign(rt: HostRuntime) {
     let pairs = [
         ("a=1", "a", "1"),
         (" a \t=\t 1 ", "a", "1"),
@@ -33,15 +55,20 @@ fn a_pair_is_divided_at_its_first_equals_sign(rt: HostRuntime) -> Result<(), Fai
         ),
     ];
     for (text, name, value) in pairs {
-        let line = read_line(rt.alloc(), text)?;
-        assert_eq!(rt; line.name.as_str(), name, "name of {text}");
-        assert_eq!(rt; line.value.as_str(), value, "value of {text}");
+        assert!(rt; has_pair(&rt, rt.alloc(), text, name, value), "{text}");
     }
-    Ok(())
+}
+
+/// Whether a text has this path and this domain, or `none`.
+fn has_place(rt: &impl Abort, alloc: Global, text: &str, path: &str, domain: &str) -> bool {
+    let line = line(rt, alloc, text);
+    let same = text_of(&line.path) == path && text_of(&line.domain) == domain;
+    drop(line);
+    same
 }
 
 #[test]
-fn of_several_paths_or_domains_the_last_counts(rt: HostRuntime) -> Result<(), Fail> {
+fn of_several_paths_or_domains_the_last_counts(rt: HostRuntime) {
     let lines = [
         ("a=1", "none", "none"),
         ("a=1; Path=/a; PATH = /b ", "/b", "none"),
@@ -54,16 +81,27 @@ fn of_several_paths_or_domains_the_last_counts(rt: HostRuntime) -> Result<(), Fa
         ("a=1; Domain=a.test; Domaine=b.test", "none", "a.test"),
     ];
     for (text, path, domain) in lines {
-        let line = read_line(rt.alloc(), text)?;
-        assert_eq!(rt; text_of(&line.path), path, "path of {text}");
-        assert_eq!(rt; text_of(&line.domain), domain, "domain of {text}");
+        assert!(rt; has_place(&rt, rt.alloc(), text, path, domain), "{text}");
     }
-    Ok(())
+}
+
+/// Whether a text has this Max-Age in seconds and this Expires in milliseconds.
+fn has_lifetime(
+    rt: &impl Abort,
+    alloc: Global,
+    text: &str,
+    max_age: Option<u32>,
+    expires: Option<u64>,
+) -> bool {
+    let line = line(rt, alloc, text);
+    let same = line.max_age == max_age && line.expires.map(Moment::ms) == expires;
+    drop(line);
+    same
 }
 
 #[test]
-fn of_several_lifetimes_the_last_readable_counts(rt: HostRuntime) -> Result<(), Fail> {
-    let lines = [
+fn of_several_lifetimes_the_last_readable_counts(rt: HostRuntime) {
+    for (text, max_age, expires) in [
         ("a=1; Max-Age=60", Some(60), None),
         ("a=1; max-age=060; Max-Age=6x", Some(60), None),
         ("a=1; Max-Age=-5", Some(0), None),
@@ -78,22 +116,39 @@ fn of_several_lifetimes_the_last_readable_counts(rt: HostRuntime) -> Result<(), 
             Some(1_623_233_894_000),
         ),
         ("a=1; Expires=0", None, None),
-    ];
-    for (text, max_age, expires) in lines {
-        let line = read_line(rt.alloc(), text)?;
-        let moment = match line.expires {
-            Some(moment) => Some(moment.ms()),
-            None => None,
-        };
-        assert_eq!(rt; line.max_age, max_age, "age of {text}");
-        assert_eq!(rt; moment, expires, "expiry of {text}");
+    ] {
+        assert!(rt;
+            has_lifetime(&rt, rt.alloc(), text, max_age, expires),
+            "{text}"
+        );
     }
-    Ok(())
+}
+
+/// Whether a text is Secure and HttpOnly as said.
+fn has_flags(rt: &impl Abort, alloc: Global, text: &str, secure: bool, http_only: bool) -> bool {
+    let line = line(rt, alloc, text);
+    let same = line.secure == secure && line.http_only == http_only;
+    drop(line);
+    same
+}
+
+/// Whether a text has this SameSite and this Priority.
+fn has_words(
+    rt: &impl Abort,
+    alloc: Global,
+    text: &str,
+    same_site: SameSite,
+    priority: Priority,
+) -> bool {
+    let line = line(rt, alloc, text);
+    let same = line.same_site == same_site && line.priority == priority;
+    drop(line);
+    same
 }
 
 #[test]
-fn flags_and_words_are_read_without_case(rt: HostRuntime) -> Result<(), Fail> {
-    let lines = [
+fn flags_and_words_are_read_without_case(rt: HostRuntime) {
+    for (text, secure, http_only, same_site, priority) in [
         ("a=1", false, false, SameSite::Unspecified, Priority::Medium),
         (
             "a=1; SECURE=no; samesite=LAX",
@@ -130,51 +185,34 @@ fn flags_and_words_are_read_without_case(rt: HostRuntime) -> Result<(), Fail> {
             SameSite::Unspecified,
             Priority::Medium,
         ),
-    ];
-    for (text, secure, http_only, same_site, priority) in lines {
-        let line = read_line(rt.alloc(), text)?;
-        assert_eq!(rt; line.secure, secure, "secure of {text}");
-        assert_eq!(rt; line.http_only, http_only, "http only of {text}");
-        assert_eq!(rt; line.same_site, same_site, "same site of {text}");
-        assert_eq!(rt; line.priority, priority, "priority of {text}");
-    }
-    Ok(())
-}
-
-/// The refusal of a line, if it is refused.
-fn refusal_of(line: Result<Line, LineRefusal>) -> Option<LineRefusal> {
-    match line {
-        Ok(_) => None,
-        Err(refusal) => Some(refusal),
+    ] {
+        assert!(rt;
+            has_flags(&rt, rt.alloc(), text, secure, http_only),
+            "{text}"
+        );
+        assert!(rt;
+            has_words(&rt, rt.alloc(), text, same_site, priority),
+            "{text}"
+        );
     }
 }
 
 #[test]
-fn a_line_keeps_each_of_its_parts(rt: HostRuntime) -> Result<(), Fail> {
+fn a_line_keeps_each_of_its_parts(rt: HostRuntime) {
+    let alloc = rt.alloc();
     let text = "n=v; Domain=.A.Test; Path=/p; Expires=Sun, 06 Nov 1994 08:49:37 GMT; Max-Age=1; \
         Secure; HttpOnly; SameSite=Lax; Priority=Low";
-    let line = read_line(rt.alloc(), text)?;
-    let texts = [
-        (line.name.as_str(), "n"),
-        (line.value.as_str(), "v"),
-        (text_of(&line.domain), "a.test"),
-        (text_of(&line.path), "/p"),
-    ];
-    for (got, want) in texts {
-        assert_eq!(rt; got, want);
-    }
-    assert!(rt; line.expires == Moment::of(784_111_777_000));
-    assert_eq!(rt; line.max_age, Some(1));
-    assert_eq!(rt; (line.secure, line.http_only), (true, true));
-    assert_eq!(rt; line.same_site, SameSite::Lax);
-    assert_eq!(rt; line.priority, Priority::Low);
-    Ok(())
+    assert!(rt; has_pair(&rt, alloc, text, "n", "v"));
+    assert!(rt; has_place(&rt, alloc, text, "/p", "a.test"));
+    assert!(rt; has_lifetime(&rt, alloc, text, Some(1), Some(784_111_777_000)));
+    assert!(rt; has_flags(&rt, alloc, text, true, true));
+    assert!(rt; has_words(&rt, alloc, text, SameSite::Lax, Priority::Low));
 }
 
 #[test]
 fn a_control_byte_refuses_a_line_first(rt: HostRuntime) {
     for text in ["\u{1}", "=;\u{7F}", " ;\n", "a=1;\0"] {
-        let refusal = refusal_of(read_line(rt.alloc(), text));
+        let refusal = refusal_of(rt.alloc(), text);
         assert_eq!(rt; refusal, Some(LineRefusal::Control), "{text}");
     }
 }
@@ -182,75 +220,86 @@ fn a_control_byte_refuses_a_line_first(rt: HostRuntime) {
 #[test]
 fn lines_without_name_and_value_are_empty(rt: HostRuntime) {
     for text in ["", ";", "=", " ;Path=/", " \t= \t; Secure", "= ;a=1"] {
-        let refusal = refusal_of(read_line(rt.alloc(), text));
+        let refusal = refusal_of(rt.alloc(), text);
         assert_eq!(rt; refusal, Some(LineRefusal::Empty), "{text}");
     }
 }
 
+/// The refusal of a line with an attribute of an `x` and this byte.
+fn refusal_with(rt: &impl Abort, alloc: Global, byte: u8) -> Option<LineRefusal> {
+    let mut text = String::from_str(alloc, "a=1; x").expect(rt, "memory for a text");
+    text.push(byte as char).expect(rt, "memory for a text");
+    let refusal = refusal_of(alloc, text.as_str());
+    drop(text);
+    refusal
+}
+
 #[test]
-fn each_control_byte_but_the_tab_refuses_the_line(rt: HostRuntime) -> Result<(), Fail> {
+fn each_control_byte_but_the_tab_refuses_the_line(rt: HostRuntime) {
     for byte in 0..=0x7Fu8 {
-        let mut text = String::from_str(rt.alloc(), "a=1; x")?;
-        text.push(byte as char)?;
         let refused = byte < 0x20 && byte != b'\t' || byte == 0x7F;
         let want = if refused {
             Some(LineRefusal::Control)
         } else {
             None
         };
-        assert_eq!(rt;
-            refusal_of(read_line(rt.alloc(), text.as_str())),
-            want,
-            "{byte}"
-        );
+        assert_eq!(rt; refusal_with(&rt, rt.alloc(), byte), want, "{byte}");
     }
-    Ok(())
 }
 
 /// A text with so many letters at its end.
-fn with_letters(rt: &HostRuntime, start: &str, count: usize, letter: char) -> Result<String, Fail> {
-    let mut text = String::from_str(rt.alloc(), start)?;
+fn with_letters(rt: &impl Abort, alloc: Global, start: &str, count: usize, letter: char) -> String {
+    let mut text = String::from_str(alloc, start).expect(rt, "memory for a text");
     for _ in 0..count {
-        text.push(letter)?;
+        text.push(letter).expect(rt, "memory for a text");
     }
-    Ok(text)
+    text
+}
+
+/// The refusal of a text with so many `v` at its end.
+fn refusal_at(rt: &impl Abort, alloc: Global, start: &str, count: usize) -> Option<LineRefusal> {
+    let text = with_letters(rt, alloc, start, count, 'v');
+    let refusal = refusal_of(alloc, text.as_str());
+    drop(text);
+    refusal
 }
 
 #[test]
-fn name_and_value_have_at_most_4096_bytes_together(rt: HostRuntime) -> Result<(), Fail> {
-    let sizes = [
+fn name_and_value_have_at_most_4096_bytes_together(rt: HostRuntime) {
+    for (start, count, want) in [
         ("n=", 4095, None),
         ("n= ", 4095, None),
         ("n=", 4096, Some(LineRefusal::TooLong)),
         ("", 4096, None),
         ("", 4097, Some(LineRefusal::TooLong)),
         ("=\u{7F}", 4097, Some(LineRefusal::Control)),
-    ];
-    for (start, count, want) in sizes {
-        let text = with_letters(&rt, start, count, 'v')?;
-        assert_eq!(rt;
-            refusal_of(read_line(rt.alloc(), text.as_str())),
-            want,
-            "{start} and {count}"
-        );
+    ] {
+        let refusal = refusal_at(&rt, rt.alloc(), start, count);
+        assert_eq!(rt; refusal, want, "{start} and {count}");
     }
-    Ok(())
+}
+
+/// The length of the path, or of `none`, of a text with so many `p` at its end.
+fn path_length(rt: &impl Abort, alloc: Global, start: &str, count: usize) -> usize {
+    let text = with_letters(rt, alloc, start, count, 'p');
+    let line = line(rt, alloc, text.as_str());
+    let length = text_of(&line.path).len();
+    drop(line);
+    drop(text);
+    length
 }
 
 #[test]
-fn an_attribute_of_more_than_1024_bytes_is_dropped_alone(rt: HostRuntime) -> Result<(), Fail> {
-    let sizes = [
+fn an_attribute_of_more_than_1024_bytes_is_dropped_alone(rt: HostRuntime) {
+    for (start, count, want) in [
         ("a=1; Path=/", 1023, 1024),
         ("a=1; Path= /", 1023, 1024),
         ("a=1; Path=/", 1024, 4),
         ("a=1; Path=/a; Path=/", 1024, 2),
         ("a=1; Path=/a; Path=x", 1023, 4),
         ("a=1; Path=/a; Path=x", 1024, 2),
-    ];
-    for (start, count, want) in sizes {
-        let text = with_letters(&rt, start, count, 'p')?;
-        let line = read_line(rt.alloc(), text.as_str())?;
-        assert_eq!(rt; text_of(&line.path).len(), want, "{start} and {count}");
+    ] {
+        let length = path_length(&rt, rt.alloc(), start, count);
+        assert_eq!(rt; length, want, "{start} and {count}");
     }
-    Ok(())
 }

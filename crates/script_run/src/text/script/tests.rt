@@ -38,7 +38,7 @@ fn scripts_have_their_steps(rt: HostRuntime) -> Result<(), Fail> {
             1,
         ),
         (
-            "{\"op\":\"set\",\"now\":1,\"url\":\"https://a.test/\",\"line\":\"=\"},{\"op\":\"get\",\"now\":1,\"url\":\"ws://a.test\"}",
+            "{\"op\":\"set\",\"now\":1,\"url\":\"https://a.test/\",\"line\":\"=\",\"site\":null,\"initiator\":\"http://b.test\",\"method\":\"a\",\"navigation\":true},{\"op\":\"get\",\"now\":1,\"url\":\"ws://a.test\"}",
             "",
             2,
         ),
@@ -64,7 +64,7 @@ fn an_input_is_refused_by_its_first_cause(rt: HostRuntime) -> Result<(), Fail> {
             "/suffixes",
         ),
         (
-            "{\"op\":\"set\",\"now\":1,\"url\":\"https://a.test/\",\"line\":\"a=1; Secure\"}",
+            "{\"op\":\"set\",\"now\":1,\"url\":\"https://a.test/\",\"line\":null}",
             ",\"suffixes\":\"a..b\"",
             Refusal::NotBuilt,
             "",
@@ -74,6 +74,24 @@ fn an_input_is_refused_by_its_first_cause(rt: HostRuntime) -> Result<(), Fail> {
             "",
             Refusal::BadPlace,
             "/actors/0/steps/1/url",
+        ),
+        (
+            "{\"op\":\"get\",\"now\":1,\"url\":\"a\",\"site\":\"b\",\"initiator\":\"c\"}",
+            "",
+            Refusal::BadPlace,
+            "/actors/0/steps/0/initiator",
+        ),
+        (
+            "{\"op\":\"get\",\"now\":1,\"url\":\"a\",\"site\":\"b\",\"initiator\":\"ws://a.test\"}",
+            "",
+            Refusal::BadPlace,
+            "/actors/0/steps/0/site",
+        ),
+        (
+            "{\"op\":\"get\",\"now\":1,\"url\":\"ws://a.test\",\"site\":null},{\"op\":\"get\",\"now\":1,\"url\":\"a\",\"initiator\":\"ftp://a.test\"}",
+            "",
+            Refusal::BadPlace,
+            "/actors/0/steps/1/initiator",
         ),
         (
             "{\"op\":\"get\",\"now\":1,\"url\":\"http://.a.test\"}",

@@ -1,0 +1,4 @@
+pub mod Refusals
+pub mod Expiry
+pub mod Making
+pub mod Laws
