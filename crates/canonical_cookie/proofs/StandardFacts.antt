@@ -1,9 +1,11 @@
 -- The definitions at values from outside: the 6265bis draft, sections 5.4, 5.5 and 5.7, and the rules of
 -- docs/DEFINITIONS.md, so that a wrong rule in the specs does not check.
-use Rattle.std.proofs.Common.{◌≡◌, ℕ, true, false, List, [], ◌∷◌, codes, Option, None, Some, refl}
-use Rattle.std.specs.Prelude.{Ok, Err}
+use Rattle.std.proofs.Common.{◌≡◌, ℕ, Bool, true, false, List, [], ◌∷◌, codes, Option, None, Some, refl, sym, ◌∙◌, ap, ⊎_elim}
+use Rattle.std.specs.Prelude.{Result, Ok, Err, is_ok}
 use Rattle.jar_values.specs.declared.attributes.SameSite.TheVariants as site
 use Rattle.jar_values.specs.declared.attributes.Priority.TheVariants.{Medium}
+use Rattle.jar_types.specs.declared.cookie.Cookie.{Cookie}
+use Rattle.jar_types.specs.declared.request.Context.{Context}
 use Rattle.jar_types.specs.declared.request.Context.TheVariants.{Strict, Lax, LaxUnsafe, Cross}
 use Rattle.set_cookie_line.specs.declared.line.Line.{Line}
 use Rattle.public_suffix.specs.declared.rule.Mark.TheVariants.{Plain}
@@ -14,10 +16,10 @@ use Rattle.site_match.specs.declared.scheme.Scheme.{Scheme}
 use Rattle.site_match.specs.declared.scheme.Scheme.TheVariants.{Http, Https}
 use Rattle.canonical_cookie.specs.declared.expiry.TheConstants.{LONGEST_LIFE}
 use Rattle.canonical_cookie.specs.declared.refusal.CookieRefusal.{CookieRefusal}
-use Rattle.canonical_cookie.specs.declared.refusal.CookieRefusal.TheVariants.{DomainNotAscii, DomainSuffix, DomainMismatch, KeyMismatch, SecureFromInsecure, HttpOnlyFromScript, NoneInsecure, CrossSite, PrefixSecure, PrefixHost, PrefixNameless}
+use Rattle.canonical_cookie.specs.declared.refusal.CookieRefusal.TheVariants.{DomainNotAscii, DomainSuffix, DomainMismatch, KeyMismatch, SecureFromInsecure, HttpOnlyFromScript, NoneInsecure, CrossSite, PrefixSecure, PrefixHost, PrefixNameless, NoMemory}
 use Rattle.canonical_cookie.specs.Refusals.{first_refusal}
 use Rattle.canonical_cookie.specs.Expiry.{capped, expiry_of}
-use Rattle.canonical_cookie.specs.Making.{host_by, made}
+use Rattle.canonical_cookie.specs.Making.{host_by, made, Makes}
 
 -- ---- values
 
@@ -108,6 +110,24 @@ good_prefixes : (refused (rooted (codes "__Secure-x")) home ≡ None) × (refuse
     × (refused (named (codes "__Hostx")) home ≡ None) × (refused (record bare { value = codes "__Host-x" }) home ≡ None)
 good_prefixes = (refl, refl, refl, refl)
 
+-- ---- of two causes the first refuses
+
+-- those of the Domain are above: each of its causes there has the ones behind it too
+domain_before_source : first_refusal rules (record (of_domain (codes "amazonaws.com")) { secure = true }) (at Http (codes "b.s3.amazonaws.com") (codes "b.s3.amazonaws.com")) Strict false ≡ Some KeyMismatch
+domain_before_source = refl
+
+sources_in_order : (first_refusal rules (record bare { secure = true; http_only = true }) (at Http (codes "site.com") (codes "site.com")) Strict true ≡ Some SecureFromInsecure)
+    × (first_refusal rules (record bare { http_only = true; same_site = site.NoLimit }) home Strict true ≡ Some HttpOnlyFromScript)
+    × (first_refusal rules (record bare { http_only = true }) home Cross true ≡ Some HttpOnlyFromScript)
+sources_in_order = (refl, refl, refl)
+
+-- what comes from another site is told before what a name or a value asks for
+source_before_prefix : (first_refusal rules (record (named (codes "__Secure-x")) { same_site = site.NoLimit }) home Cross false ≡ Some NoneInsecure)
+    × (first_refusal rules (named (codes "__Secure-x")) home Cross false ≡ Some CrossSite)
+    × (first_refusal rules (named (codes "__Host-x")) home Cross false ≡ Some CrossSite)
+    × (first_refusal rules (record (named (codes "")) { value = codes "__Host-x" }) home Cross false ≡ Some CrossSite)
+source_before_prefix = (refl, refl, refl, refl)
+
 -- ---- expiries
 
 -- the draft, section 5.5: 400 days in milliseconds
@@ -171,3 +191,19 @@ host_cookie = refl
 refusal : made rules bare home Cross false 5 ≡ Err CrossSite
 unfolding made
 refusal = refl
+
+-- where a line makes a cookie, no refusal is an answer but want of memory
+no_refusal : (line : Line) (place : Place) (context : Context) (script : Bool) (now : ℕ) (cookie : Cookie)
+    → made rules line place context script now ≡ Ok cookie → Makes rules line place context script now (Err CrossSite) → ⊥
+no_refusal line place context script now cookie makes =
+    ⊎_elim (λ refused. let never : true ≡ false = ap is_ok (sym makes ∙ refused) in absurd (cc)) (λ memory. let never : CrossSite ≡ NoMemory = memory.0 in absurd (cc))
+
+-- where it is refused, neither a cookie nor want of memory is an answer
+no_cookie : (line : Line) (place : Place) (context : Context) (script : Bool) (now : ℕ) (cookie : Cookie)
+    → made rules line place context script now ≡ Err CrossSite
+    → (Makes rules line place context script now (Ok cookie) → ⊥) × (Makes rules line place context script now (Err NoMemory) → ⊥)
+no_cookie line place context script now cookie refused = (
+  λ makes. let never : false ≡ true = ap is_ok (sym refused ∙ makes) in absurd (cc),
+  ⊎_elim (λ other. let never : ◌≡◌ {A = Result Cookie CookieRefusal} (Err CrossSite) (Err NoMemory) = sym refused ∙ other in absurd (cc))
+      (λ memory. let never : false ≡ true = ap is_ok (sym refused) ∙ memory.1 in absurd (cc)),
+)

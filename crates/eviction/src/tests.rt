@@ -7,7 +7,6 @@ use crate::{Face, global_plan, key_plan};
 use jar_types::{Moment, NoMemory, Priority};
 use std::alloc::Global;
 use std::process::Abort;
-use std::test::Fail;
 
 /// The moment of the sweeps, in milliseconds.
 const NOW: u64 = 10_000_000_000;
@@ -114,6 +113,13 @@ fn faces(rt: &impl Abort, alloc: Global, table: Table, count: u64) -> Result<Vec
     Ok(faces)
 }
 
+/// The first faces of a table, where there is memory.
+fn table_of(rt: &impl Abort, alloc: Global, table: Table, count: u64) -> Vec<Face>
+    ensures { TiesDiffer result.items }
+{
+    faces(rt, alloc, table, count).expect(rt, "memory for faces")
+}
+
 /// The faces the other way round.
 fn turned(mut faces: Vec<Face>) -> Vec<Face>
     requires { TiesDiffer faces.items }
@@ -124,48 +130,36 @@ fn turned(mut faces: Vec<Face>) -> Vec<Face>
 }
 
 /// The places of spans.
-fn places(alloc: Global, spans: &[Span]) -> Result<Vec<usize>, NoMemory> {
+fn places(rt: &impl Abort, alloc: Global, spans: &[Span]) -> Vec<usize> {
     let mut places = Vec::new(alloc);
     for &(from, to, each) in spans {
         for place in from..to {
             if each || (place - from) % 2 == 0 {
-                places.push(place)?;
+                places.push(place).expect(rt, "memory for places");
             }
         }
     }
-    Ok(places)
+    places
 }
 
 /// From a key of the first faces of a table these go.
-fn go_from_key(
-    rt: &impl Abort,
-    alloc: Global,
-    table: Table,
-    count: u64,
-    spans: &[Span],
-) -> Result<(), Fail> {
-    let faces = faces(rt, alloc, table, count)?;
-    let plan = key_plan(alloc, &faces)?;
-    assert_eq!(rt; plan, places(alloc, spans)?, "a key of {count}");
-    Ok(())
+fn go_from_key(rt: &impl Abort, alloc: Global, table: Table, count: u64, spans: &[Span]) {
+    let faces = table_of(rt, alloc, table, count);
+    let plan = key_plan(alloc, &faces).expect(rt, "memory for a plan");
+    drop(faces);
+    assert_eq!(rt; plan, places(rt, alloc, spans), "a key of {count}");
 }
 
 /// From a jar of the first faces of a table these go.
-fn go_from_jar(
-    rt: &impl Abort,
-    alloc: Global,
-    table: Table,
-    count: u64,
-    spans: &[Span],
-) -> Result<(), Fail> {
-    let faces = faces(rt, alloc, table, count)?;
-    let plan = global_plan(alloc, &faces, moment(rt, NOW))?;
-    assert_eq!(rt; plan, places(alloc, spans)?, "a jar of {count}");
-    Ok(())
+fn go_from_jar(rt: &impl Abort, alloc: Global, table: Table, count: u64, spans: &[Span]) {
+    let faces = table_of(rt, alloc, table, count);
+    let plan = global_plan(alloc, &faces, moment(rt, NOW)).expect(rt, "memory for a plan");
+    drop(faces);
+    assert_eq!(rt; plan, places(rt, alloc, spans), "a jar of {count}");
 }
 
 #[test]
-fn a_key_is_thinned_in_rounds(rt: HostRuntime) -> Result<(), Fail> {
+fn a_key_is_thinned_in_rounds(rt: HostRuntime) {
     let alloc = rt.alloc();
     let gone = [
         (20, 50, false),
@@ -173,12 +167,12 @@ fn a_key_is_thinned_in_rounds(rt: HostRuntime) -> Result<(), Fail> {
         (21, 41, false),
         (43, 44, true),
     ];
-    go_from_key(&rt, alloc, Table::Mixed, 181, &gone)?;
-    go_from_key(&rt, alloc, Table::Mixed, 180, &[])
+    go_from_key(&rt, alloc, Table::Mixed, 181, &gone);
+    go_from_key(&rt, alloc, Table::Mixed, 180, &[]);
 }
 
 #[test]
-fn the_most_accessed_are_spared_up_to_the_quotas(rt: HostRuntime) -> Result<(), Fail> {
+fn the_most_accessed_are_spared_up_to_the_quotas(rt: HostRuntime) {
     let alloc = rt.alloc();
     let (low, medium, high) = (Priority::Low, Priority::Medium, Priority::High);
     let rows: [(u64, Priority, Priority, usize, Span); 6] = [
@@ -191,54 +185,57 @@ fn the_most_accessed_are_spared_up_to_the_quotas(rt: HostRuntime) -> Result<(), 
     ];
     for (first, priority, other, front, rest) in rows {
         let table = Table::Halves(first, priority, other);
-        go_from_key(&rt, alloc, table, 181, &[(0, front, true), rest])?;
+        go_from_key(&rt, alloc, table, 181, &[(0, front, true), rest]);
     }
-    Ok(())
 }
 
 #[test]
-fn a_key_of_more_than_180_is_thinned_to_150(rt: HostRuntime) -> Result<(), Fail> {
+fn a_key_of_more_than_180_is_thinned_to_150(rt: HostRuntime) {
     let alloc = rt.alloc();
     for (count, gone) in [(0, 0), (180, 0), (181, 31), (182, 32), (400, 250)] {
         let table = Table::Halves(count, Priority::Low, Priority::Low);
-        go_from_key(&rt, alloc, table, count, &[(0, gone, true)])?;
+        go_from_key(&rt, alloc, table, count, &[(0, gone, true)]);
     }
-    Ok(())
 }
 
-#[test]
-fn the_tie_decides_and_not_the_place(rt: HostRuntime) -> Result<(), Fail> {
-    let alloc = rt.alloc();
-    go_from_key(&rt, alloc, Table::Alike, 181, &[(0, 31, true)])?;
-    let plan = key_plan(alloc, &turned(faces(&rt, alloc, Table::Alike, 181)?))?;
-    let mut gone = places(alloc, &[(150, 181, true)])?;
+/// From a key of faces of one access that stand the other way round the same go, the last first.
+fn go_turned(rt: &impl Abort, alloc: Global) {
+    let faces = turned(table_of(rt, alloc, Table::Alike, 181));
+    let plan = key_plan(alloc, &faces).expect(rt, "memory for a plan");
+    drop(faces);
+    let mut gone = places(rt, alloc, &[(150, 181, true)]);
     gone.reverse();
-    assert_eq!(&rt; plan, gone);
-    Ok(())
+    assert_eq!(rt; plan, gone);
 }
 
 #[test]
-fn a_jar_is_swept_of_stale_ones(rt: HostRuntime) -> Result<(), Fail> {
+fn the_tie_decides_and_not_the_place(rt: HostRuntime) {
+    go_from_key(&rt, rt.alloc(), Table::Alike, 181, &[(0, 31, true)]);
+    go_turned(&rt, rt.alloc());
+}
+
+#[test]
+fn a_jar_is_swept_of_stale_ones(rt: HostRuntime) {
     let alloc = rt.alloc();
     let gone = [(1, 250, false), (0, 249, false)];
-    go_from_jar(&rt, alloc, Table::Stale(250, NOW), 3301, &gone)?;
-    go_from_jar(&rt, alloc, Table::Stale(250, NOW), 3300, &[])?;
-    go_from_jar(&rt, alloc, Table::Stale(0, NOW), 3301, &[])?;
-    go_from_jar(&rt, alloc, Table::Stale(0, MONTH_AGO), 3301, &[])?;
+    go_from_jar(&rt, alloc, Table::Stale(250, NOW), 3301, &gone);
+    go_from_jar(&rt, alloc, Table::Stale(250, NOW), 3300, &[]);
+    go_from_jar(&rt, alloc, Table::Stale(0, NOW), 3301, &[]);
+    go_from_jar(&rt, alloc, Table::Stale(0, MONTH_AGO), 3301, &[]);
     go_from_jar(
         &rt,
         alloc,
         Table::Stale(0, MONTH_AGO - 1),
         3301,
         &[(0, 301, true)],
-    )
+    );
 }
 
 #[test]
-fn a_sweep_leaves_3000(rt: HostRuntime) -> Result<(), Fail> {
+fn a_sweep_leaves_3000(rt: HostRuntime) {
     let alloc = rt.alloc();
     let some = [(1, 400, false), (0, 399, false)];
-    go_from_jar(&rt, alloc, Table::Stale(400, NOW), 3400, &some)?;
+    go_from_jar(&rt, alloc, Table::Stale(400, NOW), 3400, &some);
     let front = [(1, 402, false), (0, 397, false)];
-    go_from_jar(&rt, alloc, Table::Stale(402, NOW), 3400, &front)
+    go_from_jar(&rt, alloc, Table::Stale(402, NOW), 3400, &front);
 }

@@ -5,7 +5,6 @@ use Rattle.std.specs.List.{fold}
 use Rattle.jar_types.specs.declared.entry.Event.{Event}
 use Rattle.jar_types.specs.declared.entry.Event.TheVariants.{Call as CallEvent, Jar as JarEvent}
 use Rattle.jar_types.specs.declared.entry.Entry.{Entry}
-use Rattle.std.specs.Prelude.{ℕ}
 use Rattle.jar_types.specs.States.{JarState, opening}
 use Rattle.jar_types.specs.Steps.{after, entry_of, event_of}
 use Rattle.jar_types.specs.Journals.{Rules, stored_keys, events, run, all_stand, stands, state_of}

@@ -1,3 +1,12 @@
 pub mod JournalLemmas
 pub mod RisingLemmas
+pub mod FindLemmas
+pub mod TallyLemmas
+mod FactValues
 mod StandardFacts
+mod CellFacts
+mod CallFacts
+mod JournalFacts
+pub mod HistoryLemmas
+pub mod ListenerLemmas
+pub mod CountLemmas

@@ -1,7 +1,7 @@
 -- Lists whose ids rise: a purged key, a cookie set in its place, cookies changed in what is not their id, and so the
 -- cookies after every journal.
 use Rattle.std.proofs.Common.{◌≡◌, ℕ, List, [], ◌∷◌, ◌++◌, Bool, true, false, cond, refl, ap, ◌∙◌}
-use Rattle.std.specs.Prelude.{filter, map, length, not, nat_le, ◌+◌, fold, Option, None, Some}
+use Rattle.std.specs.Prelude.{filter, find, map, length, not, nat_le, ◌+◌, fold, Option, None, Some}
 use Rattle.std.specs.Cmp.{IsTotalOrder}
 use Rattle.std.specs.Cmp.Lexicographic.{on_texts}
 use Rattle.std.specs.List.{AllByRecursion, list_any}
@@ -12,8 +12,9 @@ use Rattle.std.specs.declared.cmp.Ordering.TheVariants.{Less, Equal, Greater}
 use Rattle.std.proofs.lemmas.Cmp.{then_total}
 use Rattle.std.proofs.lemmas.List.Kept.{IsStrictlySortedBy-filter}
 use Rattle.jar_types.specs.declared.cookie.Cookie.{Cookie}
+use Rattle.jar_types.specs.declared.cookie.CookieId.{CookieId}
 use Rattle.jar_types.specs.declared.op.Op.{Op}
-use Rattle.jar_types.specs.declared.op.Op.TheVariants.{Set, Get}
+use Rattle.jar_types.specs.declared.op.Op.TheVariants.{Bind, Set, Get, Delete, Listen, Changes, Unlisten, Post, Hear}
 use Rattle.jar_types.specs.declared.op.Reply.{Reply}
 use Rattle.jar_types.specs.declared.op.TheConstants.{REFRESH_AFTER}
 use Rattle.jar_types.specs.declared.limits.TheConstants.{MOST_OF_JAR}
@@ -22,6 +23,7 @@ use Rattle.jar_types.specs.declared.entry.Event.{Event}
 use Rattle.jar_types.specs.declared.entry.Event.TheVariants.{Call as CallEvent, Jar as JarEvent}
 use Rattle.jar_types.specs.declared.request.Request.{Request}
 use Rattle.jar_types.specs.Changes.{Changed}
+use Rattle.jar_types.specs.Deletes.{has_id, without_id, deleted_where}
 use Rattle.jar_types.specs.Evictions.{cookie_looks, evict, thinned, all_purged, all_thinned, swept_where, swept}
 use Rattle.jar_types.specs.Ids.{id_cmp, id_of, cookie_cmp, same_id, RisesById}
 use Rattle.jar_types.specs.Answers.{is_answered}
@@ -167,6 +169,14 @@ set_where_rises None s now c left rises =
     tidied_rises s.whole now c.key (put now c left.cookies).all.cookies
     (put_rises (is_expired now c) (old_of c left.cookies) c left.cookies rises)
 
+-- a cookie that a caller takes away leaves the others in the order of their ids
+pub without_id_rises : (id : CookieId) (cookies : List Cookie) → RisesById cookies → RisesById (without_id id cookies)
+without_id_rises id cookies rises = IsStrictlySortedBy-filter cookie_cmp (λ c. not (has_id id c)) cookies rises
+
+deleted_rises : (old : Option Cookie) (id : CookieId) (cookies : List Cookie) → RisesById cookies → RisesById (deleted_where old id cookies).cookies
+deleted_rises None id cookies rises = rises
+deleted_rises (Some c) id cookies rises = without_id_rises id cookies rises
+
 -- an op leaves the cookies in the order of their ids
 op_rises : (s : JarState) (caller now : ℕ) (op : Op) → RisesById s.cookies → RisesById (op_step s caller now op).state.cookies
 op_rises s caller now (Set cookie script secure) rises =
@@ -174,6 +184,15 @@ op_rises s caller now (Set cookie script secure) rises =
     set_where_rises (barred script secure cookie left.cookies) s now cookie left (purged_rises cookie.key now s.cookies rises)
 op_rises s caller now (Get request) rises =
     served_rises request now (purged request.key now s.cookies) (purged_rises request.key now s.cookies rises)
+op_rises s caller now (Delete key id) rises =
+    let left = purge key now s.cookies in
+    deleted_rises (find (has_id id) left.cookies) id left.cookies (purged_rises key now s.cookies rises)
+op_rises s caller now (Bind key) rises = rises
+op_rises s caller now (Listen scope) rises = rises
+op_rises s caller now (Changes number) rises = rises
+op_rises s caller now (Unlisten number) rises = rises
+op_rises s caller now Post rises = rises
+op_rises s caller now (Hear actor n) rises = rises
 
 event_rises : (s : JarState) (v : Event) → RisesById s.cookies → RisesById (after s v).cookies
 event_rises s (CallEvent caller now op) rises = op_rises s caller now op rises

@@ -1,11 +1,12 @@
 -- Journals: the state that they lead to, and which of them the jar of one thread can have made.
 -- This jar's own rule: docs/DEFINITIONS.md.
 use Rattle.std.specs.Prelude.{ℕ, ◌≡◌, List, [], ◌∷◌, ◌&&◌, ◌==◌, Bool, true, map, fold, nat_lt}
+use Rattle.std.specs.Prelude.{Option, None, Some, is_none}
 use Rattle.std.specs.Prelude.{bytes_eq}
 use Rattle.std.specs.List.Sorted.{IsStrictlySortedBy}
 use Rattle.jar_values.specs.Hosts.{undotted}
 use Rattle.jar_types.specs.declared.op.Op.{Op}
-use Rattle.jar_types.specs.declared.op.Op.TheVariants.{Set, Get}
+use Rattle.jar_types.specs.declared.op.Op.TheVariants.{Bind, Set, Get, Delete, Listen, Changes, Unlisten, Post, Hear}
 use Rattle.jar_types.specs.declared.entry.Own.{Own}
 use Rattle.jar_types.specs.declared.entry.Own.TheVariants.{Whole}
 use Rattle.jar_types.specs.declared.entry.Event.{Event}
@@ -13,6 +14,7 @@ use Rattle.jar_types.specs.declared.entry.Event.TheVariants.{Call as CallEvent, 
 use Rattle.jar_types.specs.declared.entry.Entry.{Entry}
 use Rattle.jar_types.specs.Ids.{text_cmp}
 use Rattle.jar_types.specs.Orders.{ascending}
+use Rattle.jar_types.specs.Posts.{op_wanting}
 use Rattle.jar_types.specs.States.{JarState, opening, is_loaded}
 use Rattle.jar_types.specs.Steps.{after, entry_of, event_of, own_may_stand}
 
@@ -46,24 +48,45 @@ run s (v ∷ vs) = entry_of s v ∷ run (after s v) vs
 abbrev pub is_at_start : Rules → Own → Bool
 is_at_start r (Whole now) = now == r.start
 
--- the key that an op is about
-abbrev pub op_key : Op → List ℕ
-op_key (Set cookie script secure) = cookie.key
-op_key (Get request) = request.key
+-- the key that has to be loaded for an op, where it is about one
+abbrev pub needed_key : Op → Option (List ℕ)
+needed_key (Bind key) = None
+needed_key (Set cookie script secure) = Some cookie.key
+needed_key (Get request) = Some request.key
+needed_key (Delete key id) = Some key
+needed_key (Listen scope) = None
+needed_key (Changes number) = None
+needed_key (Unlisten number) = None
+needed_key Post = None
+needed_key (Hear actor n) = None
 
--- whether an op is well keyed: a cookie to be stored has the key of its host or domain
+-- the key is loaded, where there is one
+abbrev pub is_there : JarState → Option (List ℕ) → Bool
+is_there s None = true
+is_there s (Some key) = is_loaded s key
+
+-- whether an op is well keyed: a cookie to be stored, and one to be taken away, has the key of its host
+-- or domain
 abbrev pub is_well_keyed : Rules → Op → Bool
+is_well_keyed r (Bind key) = true
 is_well_keyed r (Set cookie script secure) = bytes_eq cookie.key (key_at r cookie.host)
 is_well_keyed r (Get request) = true
+is_well_keyed r (Delete key id) = bytes_eq key (key_at r id.host)
+is_well_keyed r (Listen scope) = true
+is_well_keyed r (Changes number) = true
+is_well_keyed r (Unlisten number) = true
+is_well_keyed r Post = true
+is_well_keyed r (Hear actor n) = true
 
--- whether an event may come: its caller is one, the limit isn't reached, and the op is well keyed
--- and its key loaded; or the jar may do this itself
+-- whether an event may come: its caller is one, the limit isn't reached, the op is well keyed and its
+-- key loaded, and it wants no more posts than were made; or the jar may do this itself
 abbrev pub stands : Rules → JarState → Event → Bool
 stands r s (CallEvent caller now op) =
     nat_lt caller r.callers
     && (nat_lt s.calls r.limit
     && (is_well_keyed r op
-    && is_loaded s (op_key op)))
+    && (is_there s (needed_key op)
+    && is_none (op_wanting s op))))
 stands r s (JarEvent own) = own_may_stand s own && is_at_start r own
 
 -- whether each of these events may come where it comes

@@ -3,6 +3,8 @@ pub mod Matches
 pub mod Orders
 pub mod Answers
 pub mod Changes
+pub mod Tallies
+pub mod Bound
 pub mod Purges
 pub mod Plans
 pub mod Evictions
@@ -11,9 +13,14 @@ pub mod Entries
 pub mod States
 pub mod Sets
 pub mod Gets
+pub mod Deletes
+pub mod Listeners
+pub mod Posts
 pub mod Steps
 pub mod Journals
 pub mod JournalLaws
+pub mod HistoryLaws
+pub mod Counts
 pub use Rattle.jar_values.specs.Bytes
 pub use Rattle.jar_values.specs.Names
 pub use Rattle.jar_values.specs.Hosts

@@ -8,14 +8,15 @@ use std::alloc::Global;
 
 /// Why a cookie came or left.
 ///
-/// `Inserted` is of a cookie that came. `Overwrite` is of one that left for another of its id, `Expired` of one that
-/// left at its expiry, `Evicted` of one that left where there were too many, and `ExpiredOverwrite` of one that left
-/// for another of its id that had expired.
+/// `Inserted` is of a cookie that came. `Explicit` is of one that a caller took away, `Overwrite` of one that left for
+/// another of its id, `Expired` of one that left at its expiry, `Evicted` of one that left where there were too many,
+/// and `ExpiredOverwrite` of one that left for another of its id that had expired.
 ///
 /// This jar's own rule: docs/DEFINITIONS.md.
 #[derive(Clone, Copy, Debug, PartialEq, Eq)]
 pub enum Cause {
     Inserted,
+    Explicit,
     Overwrite,
     Expired,
     Evicted,

@@ -1,8 +1,11 @@
 //! What a core of the jar does: it holds the content, prepares entries and settles them.
 
-ghost use Rattle.std.specs.Prelude.{◌≡◌, ◌<◌, ◌-◌, ◌^◌, [], IfOk};
+ghost use Rattle.std.specs.Prelude.{◌≡◌, ◌<◌, ◌-◌, ◌^◌, [], None, IfOk, IfErr, OnOk};
+ghost use Rattle.jar_types.specs.Bound.{cell_of};
+ghost use Rattle.jar_types.specs.Changes.{moved_keys};
+ghost use Rattle.jar_types.specs.Posts.{Refuses, posts_wanting};
 ghost use Rattle.jar_types.specs.States.{opening};
-ghost use Rattle.jar_types.specs.Steps.{OwnMayStand, after, entry_of, event_of, own_may_stand};
+ghost use Rattle.jar_types.specs.Steps.{OwnMayStand, after, changes_at, entry_of, event_of, own_may_stand};
 ghost use Rattle.jar_types.specs.declared.jar_core.CoreRefusal.TheVariants.{NoMemory as WantOfMemory};
 
 use crate::entry::{Entry, Event, Own};
@@ -11,10 +14,11 @@ use std::alloc::Global;
 use std::error::Error;
 use std::fmt;
 
-/// An entry that a core has made ready.
+/// An entry that a core has made ready, and the keys whose cookies it changes, ascending.
 #[derive(Drop)]
 pub struct Prepared {
     pub entry: Entry,
+    pub moved: Texts,
 }
 
 impl Prepared {
@@ -24,6 +28,7 @@ impl Prepared {
     {
         Ok(Prepared {
             entry: self.entry.copy(alloc)?,
+            moved: self.moved.copy(alloc)?,
         })
     }
 }
@@ -31,6 +36,8 @@ impl Prepared {
 /// Why a core prepares no entry.
 #[derive(Clone, Copy, Debug, PartialEq, Eq)]
 pub enum CoreRefusal {
+    /// A Hear waits: its actor has made as many posts as `found`, and fewer than it wants.
+    NotYet { found: u64 },
     /// Memory was wanting.
     NoMemory,
 }
@@ -38,6 +45,7 @@ pub enum CoreRefusal {
 impl fmt::Display for CoreRefusal {
     fn fmt<W: fmt::Write>(&self, f: &mut fmt::Formatter<W>) -> fmt::Result {
         match self {
+            CoreRefusal::NotYet { found } => write!(f, "only {found} posts were made"),
             CoreRefusal::NoMemory => write!(f, "out of memory"),
         }
     }
@@ -73,16 +81,24 @@ pub trait JarCore {
 
     /// The entry of an event. The content stays, and the core is ready for the entry until its next call by `&mut`.
     ///
-    /// Only want of memory refuses.
+    /// NotYet is refused exactly where a Hear wants more posts than its actor has made; then want of memory.
     fn prepare(&mut self, alloc: Global, event: &Event) -> Result<Prepared, CoreRefusal>
         requires room { (state self.old).entries < 2 ^ 64 - 1 }
         requires stands { OwnMayStand (state self.old) event.now }
 
-        // The entry is the one that the event makes.
+        // The entry is the one that the event makes, and these are the keys that it moves.
         ensures entry { IfOk result (λ p. p.entry ≡ entry_of (state self.old) event.now) }
+        ensures moved { IfOk result (λ p. p.moved ≡ moved_keys (changes_at (state self.old) event.now)) }
         ensures ready { IfOk result (λ p. ready self.new p) }
 
+        ensures heard { OnOk result (posts_wanting (state self.old) event.now ≡ None) }
+        ensures err { IfErr result (Refuses (state self.old) event.now) }
+
         ensures same { state self.new ≡ state self.old };
+
+    /// The cell of a key; none where it isn't bound. It takes no memory.
+    fn cell_of(&self, key: &str) -> Option<u32>
+        ensures { result ≡ cell_of key.now (state self.now).bound };
 
     /// Whether the jar may do this itself at this content, the moment of a Whole aside. It takes no memory.
     fn stands(&self, own: &Own) -> bool

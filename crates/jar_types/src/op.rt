@@ -2,9 +2,11 @@
 
 ghost use Rattle.std.specs.Prelude.{◌≡◌, IfOk};
 
-use crate::cookie::{Cookie, Cookies};
+use crate::change::Changes;
+use crate::cookie::{Cookie, CookieId, Cookies};
+use crate::listener::Scope;
 use crate::request::Request;
-use jar_values::NoMemory;
+use jar_values::{NoMemory, Text};
 use std::alloc::Global;
 
 /// After how many milliseconds a Get writes an access anew.
@@ -14,25 +16,53 @@ pub const REFRESH_AFTER: u64 = 60_000;
 
 /// What a caller asks.
 ///
-/// `Set` stores a cookie: `script` says whether a script does and not HTTP, `secure` whether the connection is.
-/// `Get` asks for the cookies of a request.
+/// - `Bind` binds a key to a cell.
+/// - `Set` stores a cookie: `script` says whether a script does and not HTTP, `secure` whether the connection is.
+/// - `Get` asks for the cookies of a request.
+/// - `Delete` takes the cookie of an id away, of this key.
+/// - `Listen` registers a listener. `Changes` takes its changes and `Unlisten` ends it, each by its number.
+/// - `Post` tells the other callers that this one came so far. `Hear` waits for the n-th Post of an actor.
+///
+/// This jar's own rule: docs/DEFINITIONS.md.
 #[derive(Drop)]
 pub enum Op {
+    Bind(Text),
     Set {
         cookie: Cookie,
         script: bool,
         secure: bool,
     },
     Get(Request),
+    Delete {
+        key: Text,
+        id: CookieId,
+    },
+    Listen(Scope),
+    Changes(u64),
+    Unlisten(u64),
+    Post,
+    Hear {
+        actor: u32,
+        n: u64,
+    },
 }
 
 /// What the jar replies.
 ///
-/// A Set is answered `Stored` where its id is new and `Replaced` where it was there; for a cookie that has expired
-/// `Removed` where its id was there, and else `NothingThere`; and `OverwriteSecure` or `OverwriteHttpOnly` where a
-/// cookie that it may not touch bars it. `Cookies` answers a Get.
+/// - `Cell` answers a Bind, by the cell of the key; none where all cells are other keys'.
+/// - A Set is answered `Stored` where its id is new and `Replaced` where it was there; for a cookie that has expired
+///   `Removed` where its id was there, and else `NothingThere`; and `OverwriteSecure` or `OverwriteHttpOnly` where a
+///   cookie that it may not touch bars it.
+/// - `Cookies` answers a Get of HTTP. `Script` answers one of a script: the text of the cookies, the version of the
+///   key's cell where it is bound, and until when the text may be kept, in milliseconds since 1970.
+/// - `Flag` answers a Delete and an Unlisten: whether what was named was there.
+/// - `Listener` answers a Listen, by the number of the listener, `Changes` or `NoListener` a Changes.
+/// - `Posted` answers a Post, by how many its caller has made, and `Heard` a Hear.
+///
+/// This jar's own rule: docs/DEFINITIONS.md.
 #[derive(Drop)]
 pub enum Reply {
+    Cell(Option<u32>),
     Stored,
     Replaced,
     Removed,
@@ -40,6 +70,17 @@ pub enum Reply {
     OverwriteSecure,
     OverwriteHttpOnly,
     Cookies(Cookies),
+    Script {
+        text: Text,
+        version: Option<u64>,
+        until: u64,
+    },
+    Flag(bool),
+    Listener(u64),
+    Changes(Changes),
+    NoListener,
+    Posted(u64),
+    Heard,
 }
 
 impl Op {
@@ -48,6 +89,7 @@ impl Op {
         ensures { IfOk result (λ op. op ≡ self.now) }
     {
         match self {
+            Op::Bind(key) => Ok(Op::Bind(key.copy(alloc)?)),
             Op::Set {
                 cookie,
                 script,
@@ -58,6 +100,18 @@ impl Op {
                 secure: *secure,
             }),
             Op::Get(request) => Ok(Op::Get(request.copy(alloc)?)),
+            Op::Delete { key, id } => Ok(Op::Delete {
+                key: key.copy(alloc)?,
+                id: id.copy(alloc)?,
+            }),
+            Op::Listen(scope) => Ok(Op::Listen(scope.copy(alloc)?)),
+            Op::Changes(number) => Ok(Op::Changes(*number)),
+            Op::Unlisten(number) => Ok(Op::Unlisten(*number)),
+            Op::Post => Ok(Op::Post),
+            Op::Hear { actor, n } => Ok(Op::Hear {
+                actor: *actor,
+                n: *n,
+            }),
         }
     }
 }
@@ -68,6 +122,7 @@ impl Reply {
         ensures { IfOk result (λ reply. reply ≡ self.now) }
     {
         match self {
+            Reply::Cell(cell) => Ok(Reply::Cell(*cell)),
             Reply::Stored => Ok(Reply::Stored),
             Reply::Replaced => Ok(Reply::Replaced),
             Reply::Removed => Ok(Reply::Removed),
@@ -75,6 +130,21 @@ impl Reply {
             Reply::OverwriteSecure => Ok(Reply::OverwriteSecure),
             Reply::OverwriteHttpOnly => Ok(Reply::OverwriteHttpOnly),
             Reply::Cookies(cookies) => Ok(Reply::Cookies(cookies.copy(alloc)?)),
+            Reply::Script {
+                text,
+                version,
+                until,
+            } => Ok(Reply::Script {
+                text: text.copy(alloc)?,
+                version: *version,
+                until: *until,
+            }),
+            Reply::Flag(flag) => Ok(Reply::Flag(*flag)),
+            Reply::Listener(number) => Ok(Reply::Listener(*number)),
+            Reply::Changes(changes) => Ok(Reply::Changes(changes.copy(alloc)?)),
+            Reply::NoListener => Ok(Reply::NoListener),
+            Reply::Posted(count) => Ok(Reply::Posted(*count)),
+            Reply::Heard => Ok(Reply::Heard),
         }
     }
 }

@@ -2,6 +2,7 @@
 
 ghost use Rattle.std.specs.Prelude.{◌≡◌, IfOk};
 
+use crate::cookie::CookieId;
 use jar_values::{Copied, Listed, NoMemory, Text};
 use std::alloc::Global;
 
@@ -53,6 +54,36 @@ impl Row {
 
 impl Copied for Row {
     fn copied(&self, alloc: Global) -> Result<Row, NoMemory> {
+        self.copy(alloc)
+    }
+}
+
+/// A change of the stored rows: one comes in the place of its id, or that of an id goes.
+///
+/// This jar's own rule: docs/DEFINITIONS.md.
+#[derive(Drop)]
+pub enum RowChange {
+    Put(Row),
+    Drop(CookieId),
+}
+
+/// Changes of the stored rows in their order, seen as their list.
+pub type RowChanges = Listed<RowChange>;
+
+impl RowChange {
+    /// The same change again.
+    pub fn copy(&self, alloc: Global) -> Result<RowChange, NoMemory>
+        ensures { IfOk result (λ change. change ≡ self.now) }
+    {
+        match self {
+            RowChange::Put(row) => Ok(RowChange::Put(row.copy(alloc)?)),
+            RowChange::Drop(id) => Ok(RowChange::Drop(id.copy(alloc)?)),
+        }
+    }
+}
+
+impl Copied for RowChange {
+    fn copied(&self, alloc: Global) -> Result<RowChange, NoMemory> {
         self.copy(alloc)
     }
 }

@@ -60,9 +60,17 @@ borders : (domain_matches (codes "10.0.0.1") (codes "10.0.0.1") ≡ true)
     × (domain_matches (codes "anexample.com") (codes "example.com") ≡ false)
 borders = (refl, refl, refl)
 
--- hosts that are addresses, and two that are none
-addresses : (is_ip_host (codes "[::1]") ≡ true) × (is_ip_host (codes "10.0.0.1") ≡ true) × (is_ip_host (codes "h.test") ≡ false) × (is_ip_host (codes "1.h") ≡ false) × (is_ip_host (codes "h.1.") ≡ false)
-addresses = (refl, refl, refl, refl, refl)
+-- it is the host that may be no address, and not the domain
+address_hosts : (domain_matches (codes "[::1.2]") (codes "2]") ≡ false) × (domain_matches (codes "1.2.3.4") (codes "3.4") ≡ false)
+address_hosts = (refl, refl)
+
+-- hosts that are addresses: in brackets, or with a number behind the last dot
+addresses : (is_ip_host (codes "[::1]") ≡ true) × (is_ip_host (codes "10.0.0.1") ≡ true) × (is_ip_host (codes "h.9") ≡ true)
+addresses = (refl, refl, refl)
+
+-- names are none: a last label with another byte than digits, or without a byte, is no number
+names : (is_ip_host (codes "h.test") ≡ false) × (is_ip_host (codes "1.h") ≡ false) × (is_ip_host (codes "h.1a") ≡ false) × (is_ip_host (codes "h.a1") ≡ false) × (is_ip_host (codes "h.1.") ≡ false)
+names = (refl, refl, refl, refl, refl)
 
 -- one dot in front is taken away
 dots : (undotted (codes ".h.test") ≡ codes "h.test") × (undotted (codes "h.test") ≡ codes "h.test") × (undotted (codes "..h") ≡ codes ".h")
@@ -73,3 +81,7 @@ paths : (path_matches (codes "/tec/waldo") (codes "/tec") ≡ true) × (path_mat
     × (path_matches (codes "/tec/waldo") (codes "/tec/") ≡ true)
     × (path_matches (codes "/tecwaldo") (codes "/tec") ≡ false) × (path_matches (codes "/tec") (codes "/tec/waldo") ≡ false)
 paths = (refl, refl, refl, refl, refl)
+
+-- no other path of the same length matches, nor one in another case
+other_paths : (path_matches (codes "/abc/waldo") (codes "/tec") ≡ false) × (path_matches (codes "/abc/waldo") (codes "/tec/") ≡ false) × (path_matches (codes "/Tec/waldo") (codes "/tec") ≡ false)
+other_paths = (refl, refl, refl)

@@ -4,6 +4,8 @@ use crate::{
     Listed, Moment, Text, Texts, has_host_prefix, has_secure_prefix, is_blank, is_control, undotted,
 };
 use std::alloc::Global;
+use std::cmp::Ordering;
+use std::process::Abort;
 use std::test::Fail;
 
 #[test]
@@ -14,42 +16,80 @@ fn moments_end_with_the_year_9999(rt: HostRuntime) -> Result<(), Fail> {
     Ok(())
 }
 
-#[test]
-fn texts_of_strings_and_copies_have_their_bytes(rt: HostRuntime) -> Result<(), Fail> {
-    let alloc = rt.alloc();
-    let text = Text::from_string(String::from_str(alloc, "h.test")?)?;
-    let copy = text.copy(alloc)?;
+/// A text of these bytes.
+fn text(rt: &impl Abort, alloc: Global, source: &str) -> Text {
+    Text::of(alloc, source).expect(rt, "memory for a text")
+}
+
+/// The text of a string has its bytes, and so has a copy that outlives it.
+fn is_copied(rt: &impl Abort, alloc: Global, source: &str) {
+    let string = String::from_str(alloc, source).expect(rt, "memory for a string");
+    let text = Text::from_string(string).expect(rt, "memory for a text");
+    let copy = text.copy(alloc).expect(rt, "a copy");
     drop(text);
-    assert_eq!(rt; copy.as_str(), "h.test");
-    assert!(rt; copy == Text::of(alloc, "h.test")?);
-    assert!(rt; Text::of(alloc, "h.tes")? < copy);
-    assert_eq!(rt; Text::of(alloc, "")?.as_str(), "");
-    Ok(())
+    assert_eq!(rt; copy.as_str(), source);
+}
+
+#[test]
+fn texts_of_strings_and_copies_have_their_bytes(rt: HostRuntime) {
+    for source in ["h.test", "", "h\u{e9}"] {
+        is_copied(&rt, rt.alloc(), source);
+        assert_eq!(rt; text(&rt, rt.alloc(), source).as_str(), source);
+    }
+}
+
+/// How a text stands to another.
+fn order(rt: &impl Abort, alloc: Global, one: &str, other: &str) -> Ordering {
+    let other = text(rt, alloc, other);
+    text(rt, alloc, one).cmp(&other)
+}
+
+#[test]
+fn texts_are_in_the_order_of_their_bytes(rt: HostRuntime) {
+    for (one, other, wanted) in [
+        ("h.tes", "h.test", Ordering::Less),
+        ("h.test", "h.test", Ordering::Equal),
+        ("i", "h.test", Ordering::Greater),
+        ("H", "h", Ordering::Less),
+    ] {
+        let found = order(&rt, rt.alloc(), one, other);
+        assert_eq!(rt; found, wanted, "{one} and {other}");
+    }
 }
 
 /// How many texts a long list has.
 const MANY: usize = 200;
 
 /// That many texts `x`, and `y` behind them.
-fn many(alloc: Global) -> Result<Texts, Fail> {
+fn many(rt: &impl Abort, alloc: Global) -> Texts {
     let mut texts = Listed::new(alloc);
     for _ in 0..MANY {
-        texts.push(Text::of(alloc, "x")?)?;
+        texts
+            .push(text(rt, alloc, "x"))
+            .expect(rt, "memory for a list");
     }
-    texts.push(Text::of(alloc, "y")?)?;
-    Ok(texts)
+    texts
+        .push(text(rt, alloc, "y"))
+        .expect(rt, "memory for a list");
+    texts
+}
+
+/// A copy that outlives its list.
+fn copy(rt: &impl Abort, alloc: Global) -> Texts {
+    let texts = many(rt, alloc);
+    let copies = texts.copy(alloc).expect(rt, "memory for a copy");
+    drop(texts);
+    copies
 }
 
 #[test]
-fn a_copied_list_has_the_same_texts(rt: HostRuntime) -> Result<(), Fail> {
-    let alloc = rt.alloc();
-    let mut copies = many(alloc)?.copy(alloc)?;
+fn a_copied_list_has_the_same_texts(rt: HostRuntime) {
+    let mut copies = copy(&rt, rt.alloc());
     assert_eq!(rt; copies.len(), MANY + 1);
     assert_eq!(rt; copies.get(MANY - 1).map(Text::as_str), Some("x"));
-    let last = copies.pop().ok_or("no text")?;
+    let last = copies.pop().expect(&rt, "a text");
     assert_eq!(rt; last.as_str(), "y");
     assert!(rt; copies.get(MANY).is_none());
-    Ok(())
 }
 
 #[test]

@@ -1,11 +1,12 @@
 //! Cookies in the order of their ids.
 
-ghost use Rattle.std.specs.Prelude.{◌≡◌, ◌++◌, ◌∷◌, [], IfOk, option_copied};
+ghost use Rattle.std.specs.Prelude.{◌≡◌, ◌++◌, ◌∷◌, [], IfOk, find, option_copied};
+ghost use Rattle.jar_types.specs.Deletes as deletes;
 ghost use Rattle.jar_types.specs.Ids.{RisesById};
 ghost use Rattle.jar_types.specs.Sets as sets;
 
-use crate::order::cookie_cmp;
-use jar_types::{Cookie, Cookies, NoMemory};
+use crate::order::{cookie_cmp, id_order};
+use jar_types::{Cookie, CookieId, Cookies, NoMemory};
 use std::alloc::Global;
 use std::marker::Model;
 
@@ -82,6 +83,26 @@ impl ById {
             .find(|other| cookie_cmp(cookie, other).is_eq())
     }
 
+    /// The one with an id; none where there is none.
+    pub fn with_id(&self, id: &CookieId) -> Option<&Cookie>
+        ensures { option_copied result ≡ find (deletes.has_id id.now) self.now }
+    {
+        self.cookies
+            .as_slice()
+            .iter()
+            .find(|cookie| id_order(id, cookie).is_eq())
+    }
+
+    /// The cookies without the one that has an id.
+    #[tactic(auto, using(jar_types::proofs::RisingLemmas::without_id_rises))]
+    pub fn without_id(self, id: &CookieId) -> ById
+        ensures { result ≡ deletes.without_id id.now self }
+    {
+        let mut left = self.into_vec();
+        take_out_id(&mut left, id);
+        ById::from_vec(left)
+    }
+
     /// The cookies without the one that has the id of a cookie.
     #[tactic(auto, using(jar_types::proofs::RisingLemmas::without_rises))]
     pub fn without(self, cookie: &Cookie) -> ById
@@ -108,6 +129,13 @@ fn take_out(cookies: &mut Vec<Cookie>, cookie: &Cookie)
     ensures { cookies.new.items ≡ sets.without_cookie cookie.now cookies.old.items }
 {
     cookies.retain(|other| !cookie_cmp(cookie, other).is_eq());
+}
+
+/// Takes out the cookie that has an id.
+fn take_out_id(cookies: &mut Vec<Cookie>, id: &CookieId)
+    ensures { cookies.new.items ≡ deletes.without_id id.now cookies.old.items }
+{
+    cookies.retain(|cookie| !id_order(id, cookie).is_eq());
 }
 
 /// The cookies of lesser ids, then this cookie, then those of greater ids.

@@ -5,7 +5,7 @@ ghost use Rattle.jar_types.specs.States.{opening};
 ghost use Rattle.jar_types.specs.Steps as steps;
 
 use crate::by_id::ById;
-use jar_types::{NoMemory, Texts};
+use jar_types::{BoundKeys, Listeners, NoMemory, Tallies, Texts};
 use std::alloc::Global;
 use std::marker::Model;
 
@@ -15,12 +15,15 @@ pub struct Content {
     pub cookies: ById,
     pub unloaded: Texts,
     pub whole: bool,
+    pub bound: BoundKeys,
+    pub posts: Tallies,
+    pub listens: Tallies,
+    pub listeners: Listeners,
     pub calls: u64,
     pub entries: u64,
 }
 
 impl Model for Content {
-    ghost use Rattle.std.specs.Prelude.{◌≤◌};
     ghost use Rattle.jar_types.specs.States.{JarState};
 
     ghost Value = { JarState };
@@ -29,11 +32,13 @@ impl Model for Content {
       cookies = c.cookies;
       unloaded = c.unloaded;
       whole = c.whole;
+      bound = c.bound;
+      posts = c.posts;
+      listens = c.listens;
+      listeners = c.listeners;
       calls = c.calls;
       entries = c.entries;
     } };
-
-    ghost invariant = { λ c. c.calls ≤ c.entries };
 }
 
 impl Content {
@@ -45,9 +50,21 @@ impl Content {
             cookies: ById::new(alloc),
             unloaded: keys,
             whole: false,
+            bound: BoundKeys::new(alloc),
+            posts: Tallies::new(alloc),
+            listens: Tallies::new(alloc),
+            listeners: Listeners::new(alloc),
             calls: 0,
             entries: 0,
         }
+    }
+
+    /// The same content again.
+    pub fn copy(&self, alloc: Global) -> Result<Content, NoMemory>
+        ensures { IfOk result (λ next. next ≡ self.now) }
+    {
+        let cookies = self.cookies.copy(alloc)?;
+        self.with_cookies(alloc, cookies)
     }
 
     /// The same content with other cookies.
@@ -58,6 +75,10 @@ impl Content {
             cookies,
             unloaded: self.unloaded.copy(alloc)?,
             whole: self.whole,
+            bound: self.bound.copy(alloc)?,
+            posts: self.posts.copy(alloc)?,
+            listens: self.listens.copy(alloc)?,
+            listeners: self.listeners.copy(alloc)?,
             calls: self.calls,
             entries: self.entries,
         })
@@ -65,7 +86,8 @@ impl Content {
 
     /// Notes one more entry of a caller.
     pub fn count_call(&mut self)
-        requires { self.old.entries < 2 ^ 64 - 1 }
+        requires calls { self.old.calls < 2 ^ 64 - 1 }
+        requires entries { self.old.entries < 2 ^ 64 - 1 }
         ensures { self.new ≡ steps.called self.old }
     {
         self.calls += 1;

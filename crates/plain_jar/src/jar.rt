@@ -1,6 +1,8 @@
 //! The jar.
 
+use crate::bind::cell_of;
 use crate::content::Content;
+use crate::post::posts_wanting;
 use crate::step::{Next, step};
 use jar_types::{CoreRefusal, Entry, Event, JarCore, NoMemory, Own, Prepared, Texts};
 use std::alloc::Global;
@@ -17,11 +19,18 @@ pub struct PlainJar {
 }
 
 impl Model for PlainJar {
+    ghost use Rattle.std.specs.Prelude.{IfSome};
+    ghost use Rattle.jar_types.specs.Counts.{IsCounted};
     ghost use Rattle.plain_jar.specs.Contents.{Contents};
 
     ghost Value = { Contents };
 
     ghost view = { λ j. record { state = j.content; next = j.next } };
+
+    ghost invariant = { λ j. record {
+      content : IsCounted j.content;
+      next : IfSome j.next IsCounted;
+    } };
 }
 
 impl JarCore for PlainJar {
@@ -38,11 +47,22 @@ impl JarCore for PlainJar {
         })
     }
 
-    #[tactic(auto, using(jar_types::proofs::JournalLemmas::event_back))]
+    #[tactic(auto, using(jar_types::proofs::JournalLemmas::event_back, jar_types::proofs::CountLemmas::entries_count))]
     fn prepare(&mut self, alloc: Global, event: &Event) -> Result<Prepared, CoreRefusal> {
-        let Next { content, entry } = step(alloc, &self.content, event)?;
+        if let Some(found) = posts_wanting(&self.content, event) {
+            return Err(CoreRefusal::NotYet { found });
+        }
+        let Next {
+            content,
+            entry,
+            moved,
+        } = step(alloc, &self.content, event)?;
         self.next = Some(content);
-        Ok(Prepared { entry })
+        Ok(Prepared { entry, moved })
+    }
+
+    fn cell_of(&self, key: &str) -> Option<u32> {
+        cell_of(&self.content.bound, key)
     }
 
     fn stands(&self, own: &Own) -> bool {

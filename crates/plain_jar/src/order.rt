@@ -4,7 +4,7 @@ ghost use Rattle.std.specs.Prelude.{◌≡◌};
 ghost use Rattle.jar_types.specs.Answers as answers;
 ghost use Rattle.jar_types.specs.Ids as ids;
 
-use jar_types::Cookie;
+use jar_types::{Cookie, CookieId};
 use std::cmp::Ordering;
 
 /// The order of the ids of two cookies: by host, then name, then path.
@@ -14,6 +14,15 @@ pub fn cookie_cmp(c: &Cookie, d: &Cookie) -> Ordering
     c.host
         .cmp(&d.host)
         .then(c.name.cmp(&d.name).then(c.path.cmp(&d.path)))
+}
+
+/// The order of an id and that of a cookie.
+pub fn id_order(id: &CookieId, c: &Cookie) -> Ordering
+    ensures { result ≡ ids.id_cmp id.now (ids.id_of c.now) }
+{
+    id.host
+        .cmp(&c.host)
+        .then(id.name.cmp(&c.name).then(id.path.cmp(&c.path)))
 }
 
 /// The order of two cookies in an answer: longer paths first, then earlier creations, then lesser

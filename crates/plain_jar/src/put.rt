@@ -1,17 +1,18 @@
 //! What a new cookie comes to among the others.
 
-ghost use Rattle.std.specs.Prelude.{◌≡◌, IfOk, option_copied};
+ghost use Rattle.std.specs.Prelude.{◌≡◌, IfOk, Some, [], option_copied};
 ghost use Rattle.jar_types.specs.Sets as sets;
 
 use crate::by_id::ById;
+use crate::changed::Changed;
 use crate::eligible::is_expired;
-use jar_types::{Cookie, Moment, NoMemory, Reply};
+use jar_types::{Cause, Change, Cookie, Moment, NoMemory, Reply};
 use std::alloc::Global;
 
-/// The cookies behind a new one, and the reply to it.
+/// What a new cookie makes of the others, and the reply to it.
 #[derive(Drop)]
 pub struct Outcome {
-    pub cookies: ById,
+    pub all: Changed,
     pub reply: Reply,
 }
 
@@ -20,11 +21,11 @@ pub struct Outcome {
 ///
 /// RFC 6265, section 5.3, steps 11 and 12.
 pub fn put(alloc: Global, left: ById, now: Moment, cookie: &Cookie) -> Result<Outcome, NoMemory>
-    ensures cookies { IfOk result (λ p. p.cookies ≡ (sets.put now cookie.now left).all.cookies) }
+    ensures all { IfOk result (λ p. p.all ≡ (sets.put now cookie.now left).all) }
     ensures reply { IfOk result (λ p. p.reply ≡ (sets.put now cookie.now left).reply) }
 {
     if is_expired(cookie, now) {
-        Ok(removed_over(left, cookie))
+        removed_over(alloc, left, cookie)
     } else {
         set_over(alloc, left, cookie)
     }
@@ -32,15 +33,19 @@ pub fn put(alloc: Global, left: ById, now: Moment, cookie: &Cookie) -> Result<Ou
 
 /// Puts a cookie that lives among the others.
 fn set_over(alloc: Global, left: ById, cookie: &Cookie) -> Result<Outcome, NoMemory>
-    ensures cookies { IfOk result (λ p. p.cookies
-        ≡ (sets.set_over (sets.old_of cookie.now left) cookie.now left).cookies) }
+    ensures all { IfOk result (λ p. p.all
+        ≡ sets.set_over (sets.old_of cookie.now left) cookie.now left) }
     ensures reply { IfOk result (λ p. p.reply ≡ sets.set_reply (sets.old_of cookie.now left)) }
 {
     let old = left.old_of(cookie);
     let new = kept_over(alloc, old, cookie)?;
+    let changes = changes_over(alloc, old, &new)?;
     let reply = set_reply(old);
     Ok(Outcome {
-        cookies: left.with(alloc, new)?,
+        all: Changed {
+            cookies: left.with(alloc, new)?,
+            changes,
+        },
         reply,
     })
 }
@@ -56,6 +61,24 @@ fn kept_over(alloc: Global, old: Option<&Cookie>, cookie: &Cookie) -> Result<Coo
     Ok(new)
 }
 
+/// The old cookie leaves, where there is one, and the new one comes.
+fn changes_over(alloc: Global, old: Option<&Cookie>, new: &Cookie) -> Result<Vec<Change>, NoMemory>
+    ensures { IfOk result (λ all. all.items ≡ sets.changes_over (option_copied old.entry) new.now) }
+{
+    let mut all = Vec::new(alloc);
+    if let Some(old) = old {
+        all.push(Change {
+            cause: Cause::Overwrite,
+            cookie: old.copy(alloc)?,
+        })?;
+    }
+    all.push(Change {
+        cause: Cause::Inserted,
+        cookie: new.copy(alloc)?,
+    })?;
+    Ok(all)
+}
+
 /// Whether a new id was stored.
 fn set_reply(old: Option<&Cookie>) -> Reply
     ensures { result ≡ sets.set_reply (option_copied old.entry) }
@@ -67,20 +90,37 @@ fn set_reply(old: Option<&Cookie>) -> Reply
 }
 
 /// Takes the old cookie of a new one's id away.
-fn removed_over(left: ById, cookie: &Cookie) -> Outcome
-    ensures cookies { result.cookies
-        ≡ (sets.removed_over (sets.old_of cookie.now left) cookie.now left).cookies }
-    ensures reply { result.reply ≡ sets.removed_reply (sets.old_of cookie.now left) }
+fn removed_over(alloc: Global, left: ById, cookie: &Cookie) -> Result<Outcome, NoMemory>
+    ensures all { IfOk result (λ p. p.all
+        ≡ sets.removed_over (sets.old_of cookie.now left) cookie.now left) }
+    ensures reply { IfOk result (λ p. p.reply ≡ sets.removed_reply (sets.old_of cookie.now left)) }
 {
-    if left.old_of(cookie).is_some() {
-        Outcome {
+    let changes = match left.old_of(cookie) {
+        Some(old) => removal_of(alloc, old)?,
+        None => {
+            return Ok(Outcome {
+                all: Changed::unchanged(alloc, left),
+                reply: Reply::NothingThere,
+            });
+        }
+    };
+    Ok(Outcome {
+        all: Changed {
             cookies: left.without(cookie),
-            reply: Reply::Removed,
-        }
-    } else {
-        Outcome {
-            cookies: left,
-            reply: Reply::NothingThere,
-        }
-    }
+            changes,
+        },
+        reply: Reply::Removed,
+    })
+}
+
+/// The change by which an old cookie leaves for a new one of its id that has expired.
+fn removal_of(alloc: Global, old: &Cookie) -> Result<Vec<Change>, NoMemory>
+    ensures { IfOk result (λ all. all.items ≡ (sets.removed_over (Some old.now) old.now []).changes) }
+{
+    let mut all = Vec::new(alloc);
+    all.push(Change {
+        cause: Cause::ExpiredOverwrite,
+        cookie: old.copy(alloc)?,
+    })?;
+    Ok(all)
 }

@@ -1,14 +1,14 @@
 //! Set: a cookie is stored.
 
-ghost use Rattle.std.specs.Prelude.{◌≡◌, IfOk};
-ghost use Rattle.jar_types.specs.Changes.{Changed};
+ghost use Rattle.std.specs.Prelude.{◌≡◌, IfOk, None};
 ghost use Rattle.jar_types.specs.Sets as sets;
 
 use crate::bar::barred;
 use crate::by_id::ById;
+use crate::changed::Changed;
 use crate::content::Content;
 use crate::evict::{swept, thinned};
-use crate::purge::purged;
+use crate::purge::purged_of;
 use crate::put::{Outcome, put};
 use crate::stepped::Stepped;
 use jar_types::{Cookie, Moment, NoMemory, Text};
@@ -26,16 +26,14 @@ pub fn set(
     script: bool,
     secure: bool,
 ) -> Result<Stepped, NoMemory>
-    ensures content { IfOk result (λ s. s.content
-        ≡ (sets.set_step content.now now cookie.now script secure).state) }
-    ensures reply { IfOk result (λ s. s.reply
-        ≡ (sets.set_step content.now now cookie.now script secure).reply) }
+    ensures { IfOk result (λ s. s ≡ sets.set_step content.now now cookie.now script secure) }
 {
-    let left = purged(content.cookies.copy(alloc)?, &cookie.key, now);
-    match barred(&left, cookie, script, secure) {
+    let left = purged_of(alloc, content, &cookie.key, now)?;
+    match barred(&left.cookies, cookie, script, secure) {
         Some(reply) => Ok(Stepped {
-            content: content.with_cookies(alloc, left)?,
+            content: content.with_cookies(alloc, left.cookies)?,
             reply,
+            changes: left.changes,
         }),
         None => set_among(alloc, content, now, left, cookie),
     }
@@ -46,20 +44,20 @@ fn set_among(
     alloc: Global,
     content: &Content,
     now: Moment,
-    left: ById,
+    left: Changed,
     cookie: &Cookie,
 ) -> Result<Stepped, NoMemory>
-    ensures content { IfOk result (λ s. s.content ≡ record content.now {
-      cookies =
-          (sets.tidied content.now.whole now cookie.now.key (sets.put now cookie.now left).all.cookies).cookies;
-    }) }
-    ensures reply { IfOk result (λ s. s.reply ≡ (sets.put now cookie.now left).reply) }
+    ensures { IfOk result (λ s. s ≡ sets.set_where None content.now now cookie.now left) }
 {
-    let Outcome { cookies, reply } = put(alloc, left, now, cookie)?;
+    let Changed { cookies, changes } = left;
+    let Outcome { all, reply } = put(alloc, cookies, now, cookie)?;
+    let Changed { cookies, changes } = all.behind(changes)?;
     let tidy = tidied(alloc, content.whole, now, &cookie.key, cookies)?;
+    let Changed { cookies, changes } = tidy.behind(changes)?;
     Ok(Stepped {
-        content: content.with_cookies(alloc, tidy)?,
+        content: content.with_cookies(alloc, cookies)?,
         reply,
+        changes,
     })
 }
 
@@ -70,12 +68,13 @@ fn tidied(
     now: Moment,
     key: &Text,
     cookies: ById,
-) -> Result<ById, NoMemory>
-    ensures { IfOk result (λ left. left ≡ (sets.tidied whole now key.now cookies).cookies) }
+) -> Result<Changed, NoMemory>
+    ensures { IfOk result (λ left. left ≡ sets.tidied whole now key.now cookies) }
 {
     let left = thinned(alloc, key, cookies)?;
     if whole {
-        swept(alloc, now, left)
+        let Changed { cookies, changes } = left;
+        swept(alloc, now, cookies)?.behind(changes)
     } else {
         Ok(left)
     }

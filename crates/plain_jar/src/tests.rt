@@ -1,14 +1,24 @@
 //! The jar at worked cases, with ample memory.
 
-ghost use Rattle.std.specs.Prelude.{◌≡◌, ◌-◌, ◌^◌, ◌<◌};
+ghost use Rattle.std.specs.Prelude.{◌≡◌, ◌-◌, ◌^◌, ◌<◌, IfOk};
+ghost use Rattle.plain_jar.specs.Contents.{IsReady};
 
+mod asks;
 mod bars;
+mod cells;
+mod listeners;
+mod moves;
 mod plans;
+mod posts;
 mod rows;
+mod runs;
+mod words;
 
 use crate::PlainJar;
-use jar_types::{Event, JarCore, NoMemory, Texts};
-use rows::{Row, SET, get, gives, moment, op, replies, set, until, whole};
+use asks::{moment, op};
+use jar_types::{Event, JarCore, NoMemory, Prepared, Texts};
+use rows::{Row, delete, get, set, until, whole};
+use runs::{gives, replies};
 use std::alloc::Global;
 use std::test::Fail;
 
@@ -89,34 +99,67 @@ fn an_answer_has_longer_paths_then_earlier_creations_then_lesser_ids(
     Ok(())
 }
 
-/// Has a Set made ready, and drops it.
-fn drop_a_set(alloc: Global, jar: &mut PlainJar) -> Result<(), NoMemory>
+#[test]
+fn a_deleted_cookie_is_gone_and_no_other_is(rt: HostRuntime) -> Result<(), Fail> {
+    let elsewhere = Row {
+        path: "/docs",
+        ..delete("a", 5)
+    };
+    let rows = [
+        set("a", "/", 0),
+        set("b", "/", 0),
+        elsewhere,
+        delete("a", 5),
+        delete("a", 5),
+        get(6),
+    ];
+    let due = "stored;stored;not there;there;not there;b 0 0;";
+    assert!(rt; gives(rt.alloc(), &rows, due)?);
+    Ok(())
+}
+
+#[test]
+fn an_expired_cookie_is_not_there_to_be_deleted(rt: HostRuntime) -> Result<(), Fail> {
+    let rows = [until("a", 0, 100), delete("a", 100)];
+    assert!(rt; gives(rt.alloc(), &rows, "stored;not there;")?);
+    Ok(())
+}
+
+/// Has the op of a row made ready.
+fn made_ready(alloc: Global, jar: &mut PlainJar, row: &Row) -> Result<Prepared, NoMemory>
     requires { jar.old.state.entries < 2 ^ 64 - 1 }
-    ensures { jar.new.state ≡ jar.old.state }
+    ensures ready { IfOk result (λ prepared. IsReady jar.new prepared.entry) }
+    ensures same { jar.new.state ≡ jar.old.state }
 {
-    let now = moment(5)?;
+    let now = moment(row.now)?;
     let event = Event::Call {
-        caller: 0,
+        caller: row.caller,
         now,
-        op: op(alloc, &SET, now)?,
+        op: op(alloc, row, now)?,
     };
     match jar.prepare(alloc, &event) {
-        Ok(_) => Ok(()),
+        Ok(prepared) => Ok(prepared),
         Err(_) => Err(NoMemory),
     }
 }
 
-/// What a jar that dropped an entry makes of two rows.
-fn after_a_drop(alloc: Global) -> Result<String, NoMemory> {
+/// What a jar answers that had two Sets made ready and settled the later one.
+#[tactic(auto, using(crate::proofs::EntryLemmas::entries_rise))]
+fn after_two(alloc: Global) -> Result<String, NoMemory> {
     let mut jar = PlainJar::fresh(alloc, Texts::new(alloc))?;
-    drop_a_set(alloc, &mut jar)?;
-    replies(alloc, &mut jar, &[set("b", "/", 5), get(5)])
+    let early = made_ready(alloc, &mut jar, &set("a", "/", 5))?;
+    let late = made_ready(alloc, &mut jar, &set("b", "/", 5))?;
+    drop(early);
+    drop(jar.settle(late));
+    replies(alloc, &mut jar, &[get(5)])
 }
 
 #[test]
-fn an_entry_that_is_dropped_changes_nothing(rt: HostRuntime) -> Result<(), Fail> {
-    let text = after_a_drop(rt.alloc())?;
-    assert_eq!(rt; text.as_str(), "stored;b 5 5;");
+fn an_entry_that_was_made_ready_before_another_changes_nothing(
+    rt: HostRuntime,
+) -> Result<(), Fail> {
+    let text = after_two(rt.alloc())?;
+    assert_eq!(rt; text.as_str(), "b 5 5;");
     Ok(())
 }
 

@@ -1,13 +1,14 @@
 -- The definitions at values from outside: the example of the Public Suffix List format
 -- (publicsuffix.org/list, "Format"), that of its algorithm, and this jar's own rules of lists.
-use Rattle.std.proofs.Common.{ℕ, ◌≡◌, List, [], ◌∷◌, ◌++◌, ◌+◌, length, Some, None, refl, ap, arith}
+use Rattle.std.proofs.Common.{ℕ, ◌≡◌, ◌≤◌, ◌<◌, true, false, List, [], ◌∷◌, ◌++◌, ◌+◌, length, Some, None, Ok, Err, is_some, refl, ap, sym, ◌∙◌, arith}
 use Rattle.std.specs.Prelude.{codes}
 use Rattle.idna.proofs.Computing.{idna}
 use Rattle.public_suffix.specs.declared.refusal.TheConstants.{MAX_RULES}
 use Rattle.public_suffix.specs.declared.rule.Mark.{Mark}
 use Rattle.public_suffix.specs.declared.rule.Mark.TheVariants.{Plain, Wildcard, Exception}
 use Rattle.public_suffix.specs.Rule.{SuffixRule, Skipped, Named, Bad, reading_of, rule_labels}
-use Rattle.public_suffix.specs.SuffixList.{rules_of, first_bad_line}
+use Rattle.public_suffix.specs.declared.refusal.SuffixRefusal.TheVariants.{BadRule, TooMany}
+use Rattle.public_suffix.specs.SuffixList.{rules_of, first_bad_line, ReadsList}
 use Rattle.public_suffix.specs.Suffix.{key_of, IsSuffix}
 
 -- the most rules of a list: 20,000
@@ -158,3 +159,28 @@ first_bad_line-none = refl
 rules_of-order : rules_of (codes "jp" ++ 10 ∷ codes "//com" ++ 10 ∷ codes "a" ++ 10 ∷ codes "jp") ≡ rule_of Plain (codes "jp") ∷ rule_of Plain (codes "a") ∷ rule_of Plain (codes "jp") ∷ []
 unfolding idna
 rules_of-order = refl
+
+-- each answer to a list has its cause: of its bad lines the first is told, too many rules are told
+-- only where there are, and what is read is all rules, in their order
+list-first_bad : (text : List ℕ) (line other : ℕ) → first_bad_line text ≡ Some line → ReadsList text (Err (BadRule other)) → Some other ≡ Some line
+list-first_bad text line other bad refused = sym refused ∙ bad
+
+list-no_bad : (text : List ℕ) (line : ℕ) → first_bad_line text ≡ None → ReadsList text (Err (BadRule line)) → ⊥
+list-no_bad text line good refused = let never : false ≡ true = ap is_some (sym good ∙ refused) in absurd (cc)
+
+list-bad : (text : List ℕ) (line : ℕ) (rules : List SuffixRule) → first_bad_line text ≡ Some line
+    → (ReadsList text (Err TooMany) → ⊥) × (ReadsList text (Ok rules) → ⊥)
+list-bad text line rules bad = (
+  λ refused. let never : false ≡ true = ap is_some (sym refused.0 ∙ bad) in absurd (cc),
+  λ read. let never : false ≡ true = ap is_some (sym read.0 ∙ bad) in absurd (cc),
+)
+
+list-too_many : (text : List ℕ) (rules : List SuffixRule)
+    → (length (rules_of text) ≡ 20000 → ReadsList text (Err TooMany) → ⊥) × (length (rules_of text) ≡ 20001 → ReadsList text (Ok rules) → ⊥)
+list-too_many text rules = (
+  λ fits refused. let more : 20000 < length (rules_of text) = refused.1 in absurd (omega arith),
+  λ many read. let few : length (rules_of text) ≤ 20000 = read.1 in absurd (omega arith),
+)
+
+list-rules : (text : List ℕ) (rules : List SuffixRule) → ReadsList text (Ok rules) → rules ≡ rules_of text
+list-rules text rules read = read.2

@@ -1,6 +1,6 @@
 -- Why a cookie that a line makes at a read place has the key of its host or domain.
 use Rattle.std.proofs.Common.{◌≡◌, ℕ, List, ◌∷◌, ◌++◌, Bool, true, false, cond, Option, None, Some, refl, sym, ap, ◌∙◌, subst}
-use Rattle.std.specs.Prelude.{bytes_eq, codes, not, drop, ◌||◌, if◌then◌else◌, Result, Ok, Err}
+use Rattle.std.specs.Prelude.{bytes_eq, codes, not, drop, ◌||◌, if◌then◌else◌, Ok}
 use Rattle.std.proofs.lemmas.Slice.Eq.{bytes_eq-Decides}
 use Rattle.jar_values.specs.Hosts.{undotted, is_ip_host}
 use Rattle.jar_types.specs.declared.cookie.Cookie.{Cookie}
@@ -14,7 +14,7 @@ use Rattle.canonical_cookie.specs.declared.refusal.CookieRefusal.{CookieRefusal}
 use Rattle.canonical_cookie.specs.declared.refusal.CookieRefusal.TheVariants as refusal
 use Rattle.canonical_cookie.specs.Making.{host_by, cookie_of, unless_refused, made}
 use Rattle.canonical_cookie.specs.Refusals.{is_there_and, has_suffix_domain, is_domain_not_ascii, is_domain_suffix, is_domain_mismatch, is_key_mismatch, refusals, first_of, first_refusal}
-use Rattle.script_run.specs.Text.Walk.{IsPlace}
+use Rattle.script_text.specs.Walk.{IsPlace}
 
 -- a cookie has the key of its host or domain
 abbrev pub IsKeyed : List SuffixRule → Cookie → Type 0

@@ -1,6 +1,6 @@
--- Why the journal of a script is legal, and why its items name the calls.
-use Rattle.std.proofs.Common.{◌≡◌, ◌<◌, ◌≤◌, ◌+◌, ℕ, suc, zero, List, [], ◌∷◌, ◌++◌, Bool, true, false, cond, Option, None, Some, length, refl, ap, sym, ◌∙◌, arith, subst, length-append}
-use Rattle.std.specs.Prelude.{nat_lt, bytes_eq, slice_get, Result, Ok, Err}
+-- Why the journal of a script is legal.
+use Rattle.std.proofs.Common.{◌≡◌, ◌<◌, ◌≤◌, ℕ, suc, zero, List, [], ◌∷◌, ◌++◌, Bool, true, false, Option, None, Some, length, slice_get, refl, ap, sym, ◌∙◌, arith, subst}
+use Rattle.std.specs.Prelude.{◌==◌, nat_le, nat_lt, Result, Ok, Err}
 use Rattle.std.specs.List.Sorted.{IsStrictlySortedBy}
 use Rattle.std.proofs.lemmas.Bool.Decides.{nat_tests}
 use Rattle.std.proofs.lemmas.Slice.Eq.{bytes_eq-Decides}
@@ -10,224 +10,176 @@ use Rattle.jar_types.specs.declared.op.Op.{Op}
 use Rattle.jar_types.specs.declared.entry.Own.TheVariants.{Whole}
 use Rattle.jar_types.specs.declared.entry.Event.{Event}
 use Rattle.jar_types.specs.declared.entry.Event.TheVariants.{Call as CallEvent, Jar as JarEvent}
-use Rattle.jar_types.specs.declared.entry.Entry.{Entry}
-use Rattle.jar_types.specs.declared.entry.Entry.TheVariants.{Call, Jar}
-use Rattle.jar_types.specs.Ids.{text_cmp}
-use Rattle.jar_types.specs.States.{JarState, opening, is_loaded}
-use Rattle.jar_types.specs.Steps.{after, entry_of, own_may_stand, op_step}
-use Rattle.jar_types.specs.Journals.{IsLegal, is_well_keyed, op_key, stands, state_of}
+use Rattle.jar_types.specs.Posts.{op_wanting}
+use Rattle.jar_types.specs.States.{JarState}
+use Rattle.jar_types.specs.Steps.{after, entry_of, own_may_stand}
+use Rattle.jar_types.specs.Journals.{IsLegal, is_well_keyed, is_there, needed_key, stands, state_of}
 use Rattle.jar_types.proofs.JournalLemmas.{state_push, legal_push}
-use Rattle.public_suffix.specs.Rule.{SuffixRule}
 use Rattle.public_suffix.specs.Suffix.{key_of}
 use Rattle.set_cookie_line.specs.declared.line.Line.{Line}
 use Rattle.set_cookie_line.specs.declared.line.LineRefusal.{LineRefusal}
 use Rattle.set_cookie_line.specs.Line.{read_line}
-use Rattle.site_match.specs.declared.place.Place.{Place}
 use Rattle.site_match.specs.declared.fetch.FetchAsk.{FetchAsk}
 use Rattle.site_match.specs.Contexts.{context_of}
 use Rattle.canonical_cookie.specs.declared.refusal.CookieRefusal.{CookieRefusal}
 use Rattle.canonical_cookie.specs.Making.{made}
-use Rattle.script_run.specs.declared.text.draft.Draft.{Draft}
-use Rattle.script_run.specs.declared.text.draft.DraftStep.{DraftStep}
-use Rattle.script_run.specs.declared.text.draft.DraftWhat.{DraftWhat}
-use Rattle.script_run.specs.declared.text.draft.DraftWhat.TheVariants as draft_what
-use Rattle.script_run.specs.declared.text.script.Script.{Script}
-use Rattle.script_run.specs.declared.text.step.Step.{Step}
-use Rattle.script_run.specs.declared.text.step.What.{What}
+use Rattle.script_text.specs.declared.actor.Actor.{Actor}
+use Rattle.script_text.specs.declared.script.Script.{Script}
+use Rattle.script_text.specs.declared.step.Step.{Step}
+use Rattle.script_text.specs.declared.step.What.{What}
+use Rattle.script_text.specs.declared.step.What.TheVariants.{Set, Get, Delete, All, Clear, Listen, Changes, Unlisten, Post, Hear, Read, Write}
+use Rattle.script_text.specs.Admitted.{IsAdmitted, IsPlaced, IsPlacedWhat}
+use Rattle.script_text.specs.Deadlocks.{steps_of, steps_at}
 use Rattle.script_run.specs.declared.ask.Ask.{Ask}
 use Rattle.script_run.specs.declared.ask.Ask.TheVariants as ask
-use Rattle.script_run.specs.declared.report.item.Item.{Item}
-use Rattle.script_run.specs.declared.report.item.Item.TheVariants.{At, Refused}
-use Rattle.script_run.proofs.KeyLemmas.{IsKeyed, made_keyed}
-use Rattle.script_run.proofs.RunLemmas.{op_state}
-use Rattle.script_run.specs.Text.Drafts.{IsScriptFrom, StepsFrom, what_of}
-use Rattle.script_run.specs.Text.Walk.{IsPlace}
 use Rattle.script_run.specs.Ask.{ask_of, ask_at, ask_of_line, ask_of_cookie}
-use Rattle.script_run.specs.Runs.{Run, begin, run_start, whole_event, happened, called, asked, tried_step, tried, loaded, round, rounds, Ends}
-use Rattle.script_run.specs.Legal.{rules_of, SerialJournalsAreLegal, call_places, named_places, ItemsNameTheCalls}
+use Rattle.script_run.specs.Legal.{rules_of, SerialJournalsAreLegal}
+use Rattle.script_run.specs.Runs.{Run, begin, items_at, happened, called_where, called_within, asked, tried_step, next_step, tried_first, happened_where, rounds}
+use Rattle.script_run.proofs.KeyLemmas.{IsKeyed, made_keyed}
+use Rattle.script_run.proofs.SameLemmas.{op_same}
+
+-- ---- what a step asks is well keyed
+
+abbrev AskKeyed : Script → Option Ask → Type 0
+AskKeyed script None = Unit {0}
+AskKeyed script (Some (ask.Op op)) = is_well_keyed (rules_of script) op ≡ true
+AskKeyed script (Some (ask.Refused name)) = Unit {0}
+
+cookie_keyed : (script : Script) (fetch : FetchAsk) (r : Result Cookie CookieRefusal)
+    → ((c : Cookie) → r ≡ Ok c → IsKeyed script.suffixes c) → AskKeyed script (Some (ask_of_cookie fetch r))
+cookie_keyed script fetch (Ok c) h = (bytes_eq-Decides c.key (key_of script.suffixes (undotted c.host))).1 (h c refl)
+cookie_keyed script fetch (Err e) h = tt
+
+line_keyed : (script : Script) (fetch : FetchAsk) (now : ℕ) (r : Result Line LineRefusal)
+    → IsPlaced script.suffixes fetch.place → AskKeyed script (Some (ask_of_line script.suffixes fetch now r))
+line_keyed script fetch now (Ok line) (url, place) =
+    cookie_keyed script fetch (made script.suffixes line fetch.place (context_of fetch) false now)
+    (λ c is. made_keyed script.suffixes line fetch.place (context_of fetch) false now url c place is)
+line_keyed script fetch now (Err e) place = tt
+
+what_keyed : (script : Script) (now : ℕ) (what : What) → IsPlacedWhat script.suffixes what → AskKeyed script (ask_at script.suffixes now what)
+what_keyed script now (Set fetch line) placed = line_keyed script fetch now (read_line line) placed.place
+what_keyed script now (Get fetch) placed = refl
+what_keyed script now (Delete host name path) placed =
+    let key = key_of script.suffixes (undotted host) in (bytes_eq-Decides key key).1 refl
+what_keyed script now All placed = tt
+what_keyed script now Clear placed = tt
+what_keyed script now (Listen fetch name) placed = refl
+what_keyed script now (Changes listener) placed = refl
+what_keyed script now (Unlisten listener) placed = refl
+what_keyed script now Post placed = refl
+what_keyed script now (Hear actor n) placed = refl
+what_keyed script now (Read url) placed = tt
+what_keyed script now (Write line url) placed = tt
+
+-- a step of an actor is a step of one that there is
+actor_step : (o : Option Actor) (i : ℕ) (step : Step) → slice_get (steps_of o) i ≡ Some step
+    → (actor : Actor) × (o ≡ Some actor) × (slice_get actor.steps i ≡ Some step)
+actor_step None i step is = absurd cc
+actor_step (Some actor) i step is = (actor, refl, is)
+
+step_keyed : (script : Script) (a i : ℕ) (step : Step) → IsAdmitted script → slice_get (steps_at script.actors a) i ≡ Some step
+    → AskKeyed script (ask_of script.suffixes step)
+step_keyed script a i step admitted is =
+    let there = actor_step (slice_get script.actors a) i step is in
+    what_keyed script step.now step.what ((admitted.each_actor a there.0 there.1).step_places i step there.2)
+
+-- ---- the run so far
+
+-- the run so far has a legal journal, which leads to its state
+record IsSound (script : Script) (r : Run) : Type 0 where
+  state : state_of [] r.journal ≡ r.state
+  legal : IsLegal (rules_of script) r.journal
+  unloaded : r.state.unloaded ≡ []
+
+begin_sound : (script : Script) → IsSound script (begin script)
+unfolding IsStrictlySortedBy state_of
+begin_sound script = record { state = refl; legal = record { hosts = tt; replies = refl; standing = refl }; unloaded = refl }
+
+-- the journal with an event that may come
+more_legal : (script : Script) (r : Run) (v : Event) → IsSound script r → stands (rules_of script) r.state v ≡ true
+    → IsLegal (rules_of script) (happened r v).journal
+more_legal script r v sound may =
+    let rules = rules_of script in
+    let may' : stands rules (state_of [] r.journal) v ≡ true = ap (λ s. stands rules s v) sound.state ∙ may in
+    subst (λ (s : JarState). IsLegal rules (r.journal ++ entry_of s v ∷ [])) sound.state (legal_push rules r.journal v sound.legal may')
+
+more_state : (script : Script) (r : Run) (v : Event) → IsSound script r → state_of [] (happened r v).journal ≡ (happened r v).state
+more_state script r v sound =
+    subst (λ (s : JarState). state_of [] (r.journal ++ entry_of s v ∷ []) ≡ after s v) sound.state (state_push [] r.journal v)
 
 is_below : (n m : ℕ) → n < m → nat_lt n m ≡ true
 is_below n m h = grind (arith, nat_tests)
 
--- what is asked is well keyed
-abbrev AskKeyed : List SuffixRule → ℕ → Ask → Type 0
-AskKeyed suffixes limit (ask.Op op) = is_well_keyed (rules_of suffixes limit) op ≡ true
-AskKeyed suffixes limit (ask.Refused name) = Unit {0}
+all_there : (s : JarState) (o : Option (List ℕ)) → s.unloaded ≡ [] → is_there s o ≡ true
+all_there s None none = refl
+all_there s (Some key) none = rw none refl
 
-cookie_keyed : (suffixes : List SuffixRule) (limit : ℕ) (fetch : FetchAsk) (r : Result Cookie CookieRefusal)
-    → ((c : Cookie) → r ≡ Ok c → IsKeyed suffixes c) → AskKeyed suffixes limit (ask_of_cookie fetch r)
-cookie_keyed suffixes limit fetch (Ok c) h = (bytes_eq-Decides c.key (key_of suffixes (undotted c.host))).1 (h c refl)
-cookie_keyed suffixes limit fetch (Err e) h = tt
+call_stands : (script : Script) (s : JarState) (a now : ℕ) (op : Op) → a < length script.actors → s.calls < script.limit → s.unloaded ≡ []
+    → is_well_keyed (rules_of script) op ≡ true → op_wanting s op ≡ None → stands (rules_of script) s (CallEvent a now op) ≡ true
+call_stands script s a now op low few none keyed wants =
+    rw (is_below a (length script.actors) low, is_below s.calls script.limit few, keyed, all_there s (needed_key op) none, wants) refl
 
-line_keyed : (suffixes : List SuffixRule) (limit : ℕ) (fetch : FetchAsk) (now : ℕ) (url : List ℕ) (r : Result Line LineRefusal)
-    → IsPlace suffixes url fetch.place → AskKeyed suffixes limit (ask_of_line suffixes fetch now r)
-line_keyed suffixes limit fetch now url (Ok line) place =
-    cookie_keyed suffixes limit fetch (made suffixes line fetch.place (context_of fetch) false now)
-    (λ c is. made_keyed suffixes line fetch.place (context_of fetch) false now url c place is)
-line_keyed suffixes limit fetch now url (Err e) place = tt
-
-what_keyed : (suffixes : List SuffixRule) (limit now : ℕ) (what : DraftWhat) (fetch : FetchAsk) (url : List ℕ) → IsPlace suffixes url fetch.place
-    → AskKeyed suffixes limit (ask_at suffixes now (what_of what fetch))
-what_keyed suffixes limit now (draft_what.Set line) fetch url place = line_keyed suffixes limit fetch now url (read_line line) place
-what_keyed suffixes limit now draft_what.Get fetch url place = refl
-
--- what each of these steps asks is well keyed
-pub steps_keyed : (suffixes : List SuffixRule) (limit : ℕ) (drafts : List DraftStep) (steps : List Step) → StepsFrom suffixes drafts steps
-    → (i : ℕ) (step : Step) → slice_get steps i ≡ Some step → (i < length steps) × AskKeyed suffixes limit (ask_of suffixes step)
-steps_keyed suffixes limit [] [] h i step e = absurd cc
-steps_keyed suffixes limit [] (s ∷ ss) h i step e = absurd h
-steps_keyed suffixes limit (d ∷ ds) [] h i step e = absurd h
-steps_keyed suffixes limit (d ∷ ds) (s ∷ ss) h zero step e =
-    let same : s ≡ step = cc in
-    let fetch = h.0.ask in
-    let keyed = what_keyed suffixes limit s.now d.what fetch d.ask.url h.0.places.place in
-    let asks : AskKeyed suffixes limit (ask_of suffixes s) = subst (λ (w : What). AskKeyed suffixes limit (ask_at suffixes s.now w)) (sym h.0.what) keyed in
-    (omega arith, subst (λ (x : Step). AskKeyed suffixes limit (ask_of suffixes x)) same asks)
-steps_keyed suffixes limit (d ∷ ds) (s ∷ ss) h (suc i) step e =
-    let rest = steps_keyed suffixes limit ds ss h.1 i step e in
-    (omega (arith, rest.0), rest.1)
-
--- an op leaves the keys and counts nothing
-op_unloaded : (s : JarState) (caller now : ℕ) (op : Op) → (op_step s caller now op).state.unloaded ≡ s.unloaded
-op_unloaded s caller now op = ap (λ (x : JarState). x.unloaded) (op_state s caller now op)
-
-op_calls : (s : JarState) (caller now : ℕ) (op : Op) → (op_step s caller now op).state.calls ≡ s.calls
-op_calls s caller now op = ap (λ (x : JarState). x.calls) (op_state s caller now op)
-
--- the run so far has a legal journal, which leads to its state
-record IsSound (suffixes : List SuffixRule) (limit : ℕ) (r : Run) : Type 0 where
-  state : state_of [] r.journal ≡ r.state
-  legal : IsLegal (rules_of suffixes limit) r.journal
-  calls : r.state.calls ≤ length r.items
-  unloaded : r.state.unloaded ≡ []
-
-begin_sound : (suffixes : List SuffixRule) (limit : ℕ) → IsSound suffixes limit begin
-unfolding IsStrictlySortedBy state_of
-begin_sound suffixes limit = record {
-  state = refl;
-  legal = record { hosts = tt; replies = refl; standing = refl };
-  calls = omega arith;
-  unloaded = refl;
-}
-
--- the journal with an event that may come
-more_legal : (suffixes : List SuffixRule) (limit : ℕ) (r : Run) (v : Event) → IsSound suffixes limit r
-    → stands (rules_of suffixes limit) r.state v ≡ true → IsLegal (rules_of suffixes limit) (happened r v).journal
-more_legal suffixes limit r v sound may =
-    let rules = rules_of suffixes limit in
-    let may' : stands rules (state_of [] r.journal) v ≡ true = ap (λ s. stands rules s v) sound.state ∙ may in
-    subst (λ (s : JarState). IsLegal rules (r.journal ++ entry_of s v ∷ [])) sound.state (legal_push rules r.journal v sound.legal may')
-
-more_state : (suffixes : List SuffixRule) (limit : ℕ) (r : Run) (v : Event) → IsSound suffixes limit r
-    → state_of [] (happened r v).journal ≡ (happened r v).state
-more_state suffixes limit r v sound =
-    subst (λ (s : JarState). state_of [] (r.journal ++ entry_of s v ∷ []) ≡ after s v) sound.state (state_push [] r.journal v)
-
-call_stands : (suffixes : List SuffixRule) (limit : ℕ) (s : JarState) (now : ℕ) (op : Op) → s.calls < limit → s.unloaded ≡ []
-    → is_well_keyed (rules_of suffixes limit) op ≡ true → stands (rules_of suffixes limit) s (CallEvent 0 now op) ≡ true
-call_stands suffixes limit s now op few none keyed = rw (is_below s.calls limit few, keyed, none) refl
-
-asked_sound : (suffixes : List SuffixRule) (limit : ℕ) (r : Run) (now : ℕ) (a : Ask) → IsSound suffixes limit r
-    → length r.items < limit → AskKeyed suffixes limit a → IsSound suffixes limit (asked r now a)
-asked_sound suffixes limit r now (ask.Op op) sound few keyed =
-    let v = CallEvent 0 now op in
-    let may = call_stands suffixes limit r.state now op (omega (arith, sound.calls)) sound.unloaded keyed in record {
-      state = more_state suffixes limit r v sound;
-      legal = more_legal suffixes limit r v sound may;
-      calls = omega (arith, sound.calls, op_calls r.state 0 now op, length-append r.items (At (length (happened r v).journal) ∷ []));
-      unloaded = op_unloaded r.state 0 now op ∙ sound.unloaded;
+where_sound : (script : Script) (a : ℕ) (r : Run) (now : ℕ) (op : Op) (o : Option ℕ) → op_wanting r.state op ≡ o → IsSound script r
+    → a < length script.actors → r.state.calls < script.limit → is_well_keyed (rules_of script) op ≡ true
+    → IsSound script (called_where o a r now op)
+where_sound script a r now op (Some found) wants sound low few keyed = sound
+where_sound script a r now op None wants sound low few keyed =
+    let v = CallEvent a now op in
+    let may = call_stands script r.state a now op low few sound.unloaded keyed wants in record {
+      state = more_state script r v sound;
+      legal = more_legal script r v sound may;
+      unloaded = (op_same r.state a now op).unloaded ∙ sound.unloaded;
     }
-asked_sound suffixes limit r now (ask.Refused name) sound few keyed = record {
-  state = sound.state;
-  legal = sound.legal;
-  calls = omega (arith, sound.calls, length-append r.items (Refused name ∷ []));
-  unloaded = sound.unloaded;
-}
 
-step_sound : (suffixes : List SuffixRule) (limit : ℕ) (r : Run) (o : Option Step) → IsSound suffixes limit r
-    → ((step : Step) → o ≡ Some step → (length r.items < limit) × AskKeyed suffixes limit (ask_of suffixes step)) → IsSound suffixes limit (tried_step suffixes r o)
-step_sound suffixes limit r None sound h = sound
-step_sound suffixes limit r (Some step) sound h =
-    let may = h step refl in
-    asked_sound suffixes limit r step.now (ask_of suffixes step) sound may.0 may.1
+within_sound : (script : Script) (a : ℕ) (r : Run) (now : ℕ) (op : Op) (full : Bool) → nat_le script.limit r.state.calls ≡ full → IsSound script r
+    → a < length script.actors → is_well_keyed (rules_of script) op ≡ true → IsSound script (called_within full a r now op)
+within_sound script a r now op true spent sound low keyed = record { state = sound.state; legal = sound.legal; unloaded = sound.unloaded }
+within_sound script a r now op false spent sound low keyed =
+    let few : r.state.calls < script.limit = grind (arith, nat_tests) in
+    where_sound script a r now op (op_wanting r.state op) refl sound low few keyed
 
-whole_sound : (suffixes : List SuffixRule) (limit : ℕ) (r : Run) (b : Bool) → own_may_stand r.state whole_event ≡ b → IsSound suffixes limit r
-    → IsSound suffixes limit (cond b (happened r (JarEvent whole_event)) r)
-whole_sound suffixes limit r false e sound = sound
-whole_sound suffixes limit r true e sound =
-    let v = JarEvent whole_event in record {
-      state = more_state suffixes limit r v sound;
-      legal = more_legal suffixes limit r v sound (rw e refl);
-      calls = sound.calls;
+asked_sound : (script : Script) (a : ℕ) (r : Run) (now : ℕ) (o : Option Ask) → IsSound script r → a < length script.actors
+    → AskKeyed script o → IsSound script (asked script a r now o)
+asked_sound script a r now None sound low keyed = sound
+asked_sound script a r now (Some (ask.Op op)) sound low keyed =
+    within_sound script a r now op (nat_le script.limit r.state.calls) refl sound low keyed
+asked_sound script a r now (Some (ask.Refused name)) sound low keyed = record { state = sound.state; legal = sound.legal; unloaded = sound.unloaded }
+
+step_sound : (script : Script) (a : ℕ) (r : Run) (o : Option Step) → IsSound script r → a < length script.actors
+    → ((step : Step) → o ≡ Some step → AskKeyed script (ask_of script.suffixes step)) → IsSound script (tried_step script a r o)
+step_sound script a r None sound low keyed = sound
+step_sound script a r (Some step) sound low keyed =
+    asked_sound script a r step.now (ask_of script.suffixes step) sound low (keyed step refl)
+
+first_sound : (script : Script) (k : ℕ) (r : Run) → IsAdmitted script → IsSound script r → k ≤ length script.actors → IsSound script (tried_first script k r)
+first_sound script zero r admitted sound few = sound
+first_sound script (suc k) r admitted sound few =
+    let t = tried_first script k r in
+    step_sound script k t (next_step script k t) (first_sound script k r admitted sound (omega (arith, few))) (omega (arith, few))
+    (λ step is. step_keyed script k (length (items_at t k)) step admitted is)
+
+start_is : (n : ℕ) → (n == n) ≡ true
+start_is n = grind (arith, nat_tests)
+
+load_sound : (script : Script) (r : Run) (is : Bool) → own_may_stand r.state (Whole script.start) ≡ is → IsSound script r
+    → IsSound script (happened_where is r (JarEvent (Whole script.start)))
+load_sound script r false may sound = sound
+load_sound script r true may sound =
+    let v = JarEvent (Whole script.start) in
+    let stands_so : stands (rules_of script) r.state v ≡ true = rw may (start_is script.start) in record {
+      state = more_state script r v sound;
+      legal = more_legal script r v sound stands_so;
       unloaded = sound.unloaded;
     }
 
-rounds_sound : (draft : Draft) (script : Script) (limit n : ℕ) → IsScriptFrom draft script → length script.steps ≤ limit
-    → IsSound script.suffixes limit (rounds script n)
-rounds_sound draft script limit zero from few = begin_sound script.suffixes limit
-rounds_sound draft script limit (suc n) from few =
-    let r = rounds script n in
-    let t = tried script r in
-    let sound = step_sound script.suffixes limit r (slice_get script.steps (length r.items)) (rounds_sound draft script limit n from few)
-    (λ step e. let may = steps_keyed script.suffixes limit draft.steps script.steps from.steps (length r.items) step e in (omega (arith, may.0, few), may.1)) in
-    whole_sound script.suffixes limit t (own_may_stand t.state whole_event) refl sound
+rounds_sound : (script : Script) (n : ℕ) → IsAdmitted script → IsSound script (rounds script n)
+rounds_sound script zero admitted = begin_sound script
+rounds_sound script (suc n) admitted =
+    let t = tried_first script (length script.actors) (rounds script n) in
+    load_sound script t (own_may_stand t.state (Whole script.start)) refl
+    (first_sound script (length script.actors) (rounds script n) admitted (rounds_sound script n admitted) (omega arith))
 
 pub serial_legal : SerialJournalsAreLegal
-serial_legal draft script run limit from ends few =
-    let sound = rounds_sound draft script limit ends.count from few in
-    subst (λ (r : Run). IsLegal (rules_of script.suffixes limit) r.journal) (sym ends.is) sound.legal
-
--- one more item and one more entry
-named-push : (items : List Item) (place : ℕ) → named_places (items ++ At place ∷ []) ≡ named_places items ++ place ∷ []
-named-push [] place = refl
-named-push (At p ∷ items) place = ap (λ ps. p ∷ ps) (named-push items place)
-named-push (Refused name ∷ items) place = named-push items place
-
-refused-push : (items : List Item) (item : Item) → named_places (item ∷ []) ≡ [] → named_places (items ++ item ∷ []) ≡ named_places items
-refused-push [] item h = h
-refused-push (At p ∷ items) item h = ap (λ ps. p ∷ ps) (refused-push items item h)
-refused-push (Refused name ∷ items) item h = refused-push items item h
-
-call-push : (p : ℕ) (journal : List Entry) (s : JarState) (now : ℕ) (op : Op)
-    → call_places p (journal ++ entry_of s (CallEvent 0 now op) ∷ []) ≡ call_places p journal ++ (p + length journal) ∷ []
-call-push p [] s now op = ap (λ n. n ∷ []) (omega arith)
-call-push p (Call caller at asks reply ∷ es) s now op =
-    ap (λ ps. p ∷ ps) (call-push (p + 1) es s now op ∙ ap (λ n. call_places (p + 1) es ++ n ∷ []) (omega arith))
-call-push p (Jar own ∷ es) s now op = call-push (p + 1) es s now op ∙ ap (λ n. call_places (p + 1) es ++ n ∷ []) (omega arith)
-
-own-push : (p : ℕ) (journal : List Entry) (s : JarState)
-    → call_places p (journal ++ entry_of s (JarEvent whole_event) ∷ []) ≡ call_places p journal
-own-push p [] s = refl
-own-push p (Call caller at asks reply ∷ es) s = ap (λ ps. p ∷ ps) (own-push (p + 1) es s)
-own-push p (Jar own ∷ es) s = own-push (p + 1) es s
-
--- the items name the calls so far
-abbrev Named : Run → Type 0
-Named r = named_places r.items ≡ call_places 1 r.journal
-
-asked_named : (r : Run) (now : ℕ) (a : Ask) → Named r → Named (asked r now a)
-asked_named r now (ask.Op op) named =
-    let v = CallEvent 0 now op in
-    let h = happened r v in
-    let place : length h.journal ≡ 1 + length r.journal = length-append r.journal (entry_of r.state v ∷ []) ∙ omega arith in
-    named-push r.items (length h.journal)
-    ∙ ((λ k. named k ++ place k ∷ []) ∙ sym (call-push 1 r.journal r.state now op))
-asked_named r now (ask.Refused name) named = refused-push r.items (Refused name) refl ∙ named
-
-step_named : (rules : List SuffixRule) (r : Run) (o : Option Step) → Named r → Named (tried_step rules r o)
-step_named rules r None named = named
-step_named rules r (Some step) named = asked_named r step.now (ask_of rules step) named
-
-whole_named : (r : Run) (b : Bool) → Named r → Named (cond b (happened r (JarEvent whole_event)) r)
-whole_named r false named = named
-whole_named r true named = named ∙ sym (own-push 1 r.journal r.state)
-
-rounds_named : (script : Script) (n : ℕ) → Named (rounds script n)
-rounds_named script zero = refl
-rounds_named script (suc n) =
-    let r = rounds script n in
-    let t = tried script r in
-    whole_named t (own_may_stand t.state whole_event) (step_named script.suffixes r (slice_get script.steps (length r.items)) (rounds_named script n))
-
-pub calls_named : ItemsNameTheCalls
-calls_named script run ends = subst Named (sym ends.is) (rounds_named script ends.count)
+serial_legal script run admitted ends =
+    subst (λ (r : Run). IsLegal (rules_of script) r.journal) (sym ends.is) (rounds_sound script ends.count admitted).legal

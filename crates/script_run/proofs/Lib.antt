@@ -1,10 +1,12 @@
-pub mod FormLemmas
-pub mod PlacesLemmas
-pub mod WalkLemmas
-pub mod ScriptLemmas
-pub mod ReportLemmas
-pub mod RunLemmas
 pub mod KeyLemmas
+pub mod SameLemmas
+pub mod AskLemmas
+pub mod BuiltLemmas
+pub mod KeepLemmas
+pub mod CallLemmas
+pub mod RunLemmas
 pub mod LegalLemmas
+pub mod NameLemmas
+pub mod ListenLemmas
+pub mod FitLemmas
 mod StandardFacts
-mod FormFacts

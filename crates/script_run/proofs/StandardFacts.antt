@@ -1,45 +1,48 @@
--- The text of the report of the smallest script, a set and a get of one cookie, as docs/DEFINITIONS.md has it and
--- examples/smallest.report.json shows it; and each word that this report lacks. So that a wrong member, word or order in
--- the specs does not check.
-use Rattle.std.proofs.Common.{◌≡◌, ℕ, List, [], ◌∷◌, ◌++◌, length, take, inl, inr, false, codes, None, refl, ap, arith}
+-- The limit of an input, the statuses and the line of each refusal, as docs/DEFINITIONS.md has them; what isn't built,
+-- what steps ask, calls and loads at small values; and what the causes of answers keep out.
+use Rattle.std.proofs.Common.{◌≡◌, ℕ, List, [], ◌∷◌, length, take, inl, inr, true, false, codes, None, Some, refl, ap, arith}
 use Rattle.std.specs.Fmt.{digits}
 use Rattle.std.proofs.lemmas.List.{length-take}
-use Rattle.serde_json.specs.Written.{compact_text}
 use Rattle.serde_json.proofs.OnLiterals.{serde_json_on_literals}
 use Rattle.jar_edge.specs.Told.{SourceTold, SinkTold}
-use Rattle.jar_types.specs.declared.cookie.Cookie.{Cookie}
-use Rattle.jar_values.specs.declared.attributes.Priority.TheVariants.{Low, Medium, High}
-use Rattle.jar_values.specs.declared.attributes.SameSite.TheVariants.{Unspecified, NoLimit, Lax as LaxSite, Strict as StrictSite}
-use Rattle.jar_types.specs.declared.request.Request.{Request}
-use Rattle.jar_types.specs.declared.request.Context.TheVariants.{Strict, Lax, LaxUnsafe, Cross}
-use Rattle.jar_types.specs.declared.op.Op.TheVariants.{Set, Get}
-use Rattle.jar_types.specs.declared.op.Reply.TheVariants.{Stored, Replaced, Removed, NothingThere, OverwriteSecure, OverwriteHttpOnly, Cookies}
-use Rattle.jar_types.specs.declared.entry.Own.TheVariants.{Whole}
+use Rattle.jar_types.specs.declared.entry.Entry.{Entry}
 use Rattle.jar_types.specs.declared.entry.Entry.TheVariants.{Call, Jar}
-use Rattle.script_run.specs.declared.report.item.Item.TheVariants.{At, Refused}
-use Rattle.script_run.specs.declared.refusal_name.RefusalName.TheVariants.{Control, Empty, TooLong, DomainNotAscii, DomainSuffix, DomainMismatch, KeyMismatch, SecureFromInsecure, HttpOnlyFromScript, NoneInsecure, CrossSite, PrefixSecure, PrefixHost, PrefixNameless}
+use Rattle.jar_types.specs.declared.entry.Own.TheVariants.{Whole}
+use Rattle.jar_types.specs.declared.listener.Scope.TheVariants as scope
+use Rattle.jar_types.specs.declared.op.Op.TheVariants as op
+use Rattle.jar_types.specs.declared.op.Reply.TheVariants.{Posted, Heard}
+use Rattle.jar_types.specs.States.{opening}
+use Rattle.run_report.specs.declared.item.Item.TheVariants.{At, Refused}
+use Rattle.run_report.specs.declared.refusal_name.RefusalName.TheVariants.{Spent, Control}
+use Rattle.script_run.specs.declared.ask.Ask.TheVariants as ask
+use Rattle.script_run.specs.declared.status.TheConstants.{DONE, OTHER_WORDS, REFUSED, READ_FAULT, WRITE_FAULT, NO_MEMORY}
 use Rattle.script_run.specs.declared.tool.Failure.TheVariants.{ReadFault, NoMemory}
 use Rattle.script_run.specs.declared.tool.TheConstants.{MOST_INPUT}
-use Rattle.script_run.specs.declared.text.step.TheConstants.{MOST_STEPS}
-use Rattle.script_run.specs.declared.status.TheConstants.{DONE, OTHER_WORDS, REFUSED, READ_FAULT, WRITE_FAULT, NO_MEMORY}
-use Rattle.script_run.specs.declared.text.refused.Refusal.TheVariants.{NotJson}
-use Rattle.script_run.specs.Refusals.{refusal_line}
-use Rattle.script_run.specs.Text.Walk.{bad_place, member_path}
-use Rattle.script_run.specs.Text.Scripts.{at_root}
+use Rattle.script_run.specs.Ask.{ask_at, request_of, scope_of}
+use Rattle.script_run.specs.Built.{not_built, unbuilt}
+use Rattle.script_run.specs.Legal.{call_places, named_places}
+use Rattle.script_run.specs.Refusals.{at_root, refusal_line}
+use Rattle.script_run.specs.Runs.{Run, asked, is_done, loaded_at, rounds, run_of}
 use Rattle.script_run.specs.Tool.{Writes, Fails}
-use Rattle.script_run.specs.RefusalNames.{refusal_word}
-use Rattle.script_run.specs.Reports.{item_data, reply_data, priority_word, same_site_word, context_word, report_text}
+use Rattle.script_text.specs.declared.actor.Actor.{Actor}
+use Rattle.script_text.specs.declared.refused.Refusal.TheVariants as name
+use Rattle.script_text.specs.declared.script.Script.{Script}
+use Rattle.script_text.specs.declared.spot.Spot.TheVariants.{OfActor, OfStep}
+use Rattle.script_text.specs.declared.step.Step.{Step}
+use Rattle.script_text.specs.declared.step.What.{What}
+use Rattle.script_text.specs.declared.step.What.TheVariants.{All, Clear, Delete, Hear, Post, Read}
+use Rattle.site_match.specs.declared.fetch.FetchAsk.{FetchAsk}
+use Rattle.site_match.specs.declared.place.Place.{Place}
 
--- the limits of an input and of a script
+-- ---- the limit of an input, and the statuses
+
 most_input : MOST_INPUT ≡ 16777216
 most_input = refl
 
-most_steps : MOST_STEPS ≡ 20000
-most_steps = refl
-
--- the statuses
 statuses : (DONE ≡ 0) × (OTHER_WORDS ≡ 2) × (REFUSED ≡ 3) × (READ_FAULT ≡ 4) × (WRITE_FAULT ≡ 5) × (NO_MEMORY ≡ 7)
 statuses = (refl, refl, refl, refl, refl, refl)
+
+-- ---- streams
 
 -- a sink that took these bytes, at this count, and a source that gave none
 abbrev took : List ℕ → ℕ → SinkTold
@@ -68,79 +71,111 @@ no_fault (given, inr still) = let same : 0 ≡ 18446744073709551615 = still.0 in
 no_want : Fails (source_at 0) (source_at 1) NoMemory → ⊥
 no_want fails = let same : 1 ≡ 0 = fails.1 in absurd (omega (arith, same))
 
--- the lines of two refusals, at the root and at a step's URL
-refused_lines : (refusal_line (at_root NotJson) ≡ codes "{\"path\":\"\",\"refused\":\"NotJson\"}\n")
-    × (refusal_line (bad_place (member_path 12 (codes "url"))) ≡ codes "{\"path\":\"/actors/0/steps/12/url\",\"refused\":\"BadPlace\"}\n")
+-- ---- the lines of refusals
+
+refused_lines : (refusal_line (at_root name.TooLarge) ≡ codes "{\"path\":\"\",\"refused\":\"TooLarge\"}\n")
+    × (refusal_line (at_root name.NotJson) ≡ codes "{\"path\":\"\",\"refused\":\"NotJson\"}\n")
+    × (refusal_line (at_root name.Shape) ≡ codes "{\"path\":\"\",\"refused\":\"Shape\"}\n")
+    × (refusal_line (at_root name.TooMany) ≡ codes "{\"path\":\"\",\"refused\":\"TooMany\"}\n")
+    × (refusal_line (at_root name.BadMoment) ≡ codes "{\"path\":\"\",\"refused\":\"BadMoment\"}\n")
+    × (refusal_line (at_root name.BadSuffixes) ≡ codes "{\"path\":\"\",\"refused\":\"BadSuffixes\"}\n")
+    × (refusal_line (at_root name.BadPlace) ≡ codes "{\"path\":\"\",\"refused\":\"BadPlace\"}\n")
+    × (refusal_line (at_root name.Deadlock) ≡ codes "{\"path\":\"\",\"refused\":\"Deadlock\"}\n")
+    × (refusal_line (not_built (OfStep 3 12)) ≡ codes "{\"path\":\"/actors/3/steps/12\",\"refused\":\"NotBuilt\"}\n")
 unfolding digits serde_json_on_literals
-refused_lines = (refl, refl)
+refused_lines = (refl, refl, refl, refl, refl, refl, refl, refl, refl)
 
--- the cookie of the smallest script
-abbrev cookie : Cookie
-cookie = record {
-  key = codes "h.test";
-  host = codes "h.test";
-  name = codes "a";
-  path = codes "/";
-  value = codes "1";
-  creation = 1000;
-  access = 1000;
-  expiry = None;
-  secure = false;
-  http_only = false;
-  same_site = Unspecified;
-  priority = Medium;
-}
+-- ---- what isn't built
 
--- the request of the smallest script
-abbrev request : Request
-request = record {
-  key = codes "h.test";
-  host = codes "h.test";
-  path = codes "/";
-  secure = false;
-  script = false;
-  context = Strict;
-}
+-- steps at the moment 0, a fetch that does these, and a renderer that reads
+abbrev at_0 : List What → List Step
+at_0 [] = []
+at_0 (what ∷ whats) = record { now = 0; what = what } ∷ at_0 whats
 
--- the report of the smallest script, member by member
-smallest : report_text (At 1 ∷ At 3 ∷ []) (Call 0 1000 (Set cookie false false) Stored ∷ Jar (Whole 0) ∷ Call 0 2000 (Get request) (Cookies (cookie ∷ [])) ∷ [])
-    ≡ codes "{\"actors\":[[{\"at\":1},{\"at\":3}]],\"hosts\":[],\"journal\":["
-    ++ (codes "{\"by\":0,\"now\":1000,\"op\":{\"cookie\":{\"access\":1000,\"creation\":1000,\"expiry\":null,\"host\":\"h.test\",\"http_only\":false,"
-    ++ (codes "\"key\":\"h.test\",\"name\":\"a\",\"path\":\"/\",\"priority\":\"medium\",\"same_site\":\"unspecified\",\"secure\":false,\"value\":\"1\"},"
-    ++ (codes "\"kind\":\"set\",\"script\":false,\"secure\":false},\"reply\":\"stored\"},{\"now\":0,\"own\":\"whole\"},"
-    ++ (codes "{\"by\":0,\"now\":2000,\"op\":{\"kind\":\"get\",\"request\":{\"context\":\"strict\",\"host\":\"h.test\",\"key\":\"h.test\",\"path\":\"/\","
-    ++ (codes "\"script\":false,\"secure\":false}},\"reply\":{\"cookies\":[{\"access\":1000,\"creation\":1000,\"expiry\":null,\"host\":\"h.test\","
-    ++ (codes "\"http_only\":false,\"key\":\"h.test\",\"name\":\"a\",\"path\":\"/\",\"priority\":\"medium\",\"same_site\":\"unspecified\",\"secure\":false,"
-    ++ codes "\"value\":\"1\"}]}}]}\n"))))))
-unfolding digits serde_json_on_literals
-smallest = refl
+abbrev doing : List What → Actor
+doing whats = record { view = None; steps = at_0 whats }
 
--- a report of no step: no item, and no entry but that the jar became whole
-nothing_done : report_text [] (Jar (Whole 0) ∷ []) ≡ codes "{\"actors\":[[]],\"hosts\":[],\"journal\":[{\"now\":0,\"own\":\"whole\"}]}\n"
-unfolding digits serde_json_on_literals
-nothing_done = refl
+abbrev renders : Place → Actor
+renders place = record { view = Some (place, None); steps = at_0 (Read None ∷ []) }
 
--- the names of refusals: of a line, and of a cookie
-refusals : (compact_text (item_data (Refused Control)) ≡ codes "{\"refused\":\"Control\"}")
-    × (refusal_word Empty ≡ codes "Empty") × (refusal_word TooLong ≡ codes "TooLong")
-    × (refusal_word DomainNotAscii ≡ codes "DomainNotAscii") × (refusal_word DomainSuffix ≡ codes "DomainSuffix")
-    × (refusal_word DomainMismatch ≡ codes "DomainMismatch") × (refusal_word KeyMismatch ≡ codes "KeyMismatch")
-    × (refusal_word SecureFromInsecure ≡ codes "SecureFromInsecure") × (refusal_word HttpOnlyFromScript ≡ codes "HttpOnlyFromScript")
-    × (refusal_word NoneInsecure ≡ codes "NoneInsecure") × (refusal_word CrossSite ≡ codes "CrossSite")
-    × (refusal_word PrefixSecure ≡ codes "PrefixSecure") × (refusal_word PrefixHost ≡ codes "PrefixHost")
-    × (refusal_word PrefixNameless ≡ codes "PrefixNameless")
-unfolding serde_json_on_literals
-refusals = (refl, refl, refl, refl, refl, refl, refl, refl, refl, refl, refl, refl, refl, refl)
+-- a script of these actors that leaves five entries to its callers and starts at 9
+abbrev script_of : List Actor → Script
+script_of actors = record { suffixes = []; start = 9; limit = 5; actors = actors }
 
--- replies: each word, and no cookie
-replies : (compact_text (reply_data Replaced) ≡ codes "\"replaced\"") × (compact_text (reply_data Removed) ≡ codes "\"removed\"")
-    × (compact_text (reply_data NothingThere) ≡ codes "\"nothing_there\"") × (compact_text (reply_data OverwriteSecure) ≡ codes "\"overwrite_secure\"")
-    × (compact_text (reply_data OverwriteHttpOnly) ≡ codes "\"overwrite_http_only\"") × (compact_text (reply_data (Cookies [])) ≡ codes "{\"cookies\":[]}")
-unfolding serde_json_on_literals
-replies = (refl, refl, refl, refl, refl, refl)
+-- the first is named: a step of the first actor, then a renderer, and not its own steps
+first_unbuilt : (place : Place)
+    → (unbuilt (script_of (doing (Post ∷ All ∷ Clear ∷ []) ∷ renders place ∷ [])) ≡ Some (OfStep 0 1))
+    × (unbuilt (script_of (doing (Post ∷ []) ∷ renders place ∷ doing (Clear ∷ []) ∷ [])) ≡ Some (OfActor 1))
+    × (unbuilt (script_of (doing [] ∷ doing (Clear ∷ []) ∷ renders place ∷ [])) ≡ Some (OfStep 1 0))
+    × (unbuilt (script_of (doing (Post ∷ Hear 0 1 ∷ []) ∷ [])) ≡ None)
+first_unbuilt place = (refl, refl, refl, refl)
 
--- the words that the two reports above lack
-words : (same_site_word NoLimit ≡ codes "none") × (same_site_word LaxSite ≡ codes "lax") × (same_site_word StrictSite ≡ codes "strict")
-    × (context_word Lax ≡ codes "lax") × (context_word LaxUnsafe ≡ codes "lax_unsafe") × (context_word Cross ≡ codes "cross")
-    × (priority_word Low ≡ codes "low") × (priority_word High ≡ codes "high")
-words = (refl, refl, refl, refl, refl, refl, refl, refl)
+-- ---- what steps ask
+
+-- a delete is about the host as it stands, under the key of the host without its dot
+delete_asks : ask_at [] 0 (Delete (codes ".www.foo.com") (codes "a") (codes "/p"))
+    ≡ Some (ask.Op (op.Delete (codes "foo.com")
+    (record { host = codes ".www.foo.com"; name = codes "a"; path = codes "/p" })))
+delete_asks = refl
+
+scopes : (fetch : FetchAsk) → (scope_of None (Some (codes "n")) ≡ scope.All)
+    × (scope_of (Some fetch) None ≡ scope.Seen (request_of fetch))
+    × (scope_of (Some fetch) (Some (codes "n")) ≡ scope.Named (request_of fetch) (codes "n"))
+scopes fetch = (refl, refl, refl)
+
+-- ---- places
+
+-- two callers, and an entry of the jar's own between
+abbrev journal : List Entry
+journal = Call 0 5 op.Post (Posted 1) ∷ Jar (Whole 9) ∷ Call 1 5 op.Post (Posted 1) ∷ Call 0 6 (op.Hear 1 1) Heard ∷ []
+
+places : (call_places 0 1 journal ≡ 1 ∷ 4 ∷ []) × (call_places 1 1 journal ≡ 3 ∷ [])
+    × (call_places 2 1 journal ≡ [])
+    × (named_places (At 1 ∷ Refused Spent ∷ Refused Control ∷ At 4 ∷ []) ≡ 1 ∷ 4 ∷ [])
+places = (refl, refl, refl, refl)
+
+-- ---- calls and loads
+
+-- a run of one actor, whose callers have this many entries
+abbrev run_at : ℕ → Run
+run_at calls = run_of (record (opening []) { calls = calls }) [] ([] ∷ [])
+
+-- a script of one actor
+abbrev one : Script
+one = script_of (doing [] ∷ [])
+
+-- of five entries the fifth is made, and the sixth is spent: an item without an entry
+fifth : ((asked one 0 (run_at 4) 3 (Some (ask.Op op.Post))).items ≡ (At 1 ∷ []) ∷ [])
+    × ((asked one 0 (run_at 4) 3 (Some (ask.Op op.Post))).journal ≡ Call 0 3 op.Post (Posted 1) ∷ [])
+    × ((asked one 0 (run_at 4) 3 (Some (ask.Op op.Post))).state.calls ≡ 5)
+fifth = (refl, refl, refl)
+
+sixth : asked one 0 (run_at 5) 3 (Some (ask.Op op.Post)) ≡ record (run_at 5) { items = (Refused Spent ∷ []) ∷ [] }
+sixth = refl
+
+-- a hear that waits has neither item nor entry, but one that is spent has an item
+waits : (asked one 0 (run_at 4) 3 (Some (ask.Op (op.Hear 0 1))) ≡ run_at 4)
+    × ((asked one 0 (run_at 5) 3 (Some (ask.Op (op.Hear 0 1)))).items ≡ (Refused Spent ∷ []) ∷ [])
+waits = (refl, refl)
+
+-- a refused step has an item and no entry
+refused_step : asked one 0 (run_at 4) 3 (Some (ask.Refused Control))
+    ≡ record (run_at 4) { items = (Refused Control ∷ []) ∷ [] }
+refused_step = refl
+
+-- the jar becomes whole once, at the moment that it is given
+becomes_whole : ((loaded_at 7 (run_at 0)).journal ≡ Jar (Whole 7) ∷ [])
+    × (loaded_at 8 (loaded_at 7 (run_at 0)) ≡ loaded_at 7 (run_at 0))
+becomes_whole = (refl, refl)
+
+-- ---- rounds
+
+-- the first actor hears the second, which is behind it in the round: one round later
+abbrev hearing : Script
+hearing = script_of (doing (Hear 1 1 ∷ []) ∷ doing (Post ∷ []) ∷ [])
+
+hears_later : ((rounds hearing 1).items ≡ [] ∷ (At 1 ∷ []) ∷ []) × (is_done hearing (rounds hearing 1) ≡ false)
+    × ((rounds hearing 2).items ≡ (At 3 ∷ []) ∷ (At 1 ∷ []) ∷ []) × (is_done hearing (rounds hearing 2) ≡ true)
+    × ((rounds hearing 2).journal
+    ≡ Call 1 0 op.Post (Posted 1) ∷ Jar (Whole 9) ∷ Call 0 0 (op.Hear 1 1) Heard ∷ [])
+hears_later = (refl, refl, refl, refl, refl)

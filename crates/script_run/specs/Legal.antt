@@ -1,42 +1,47 @@
 -- The history of a script is one that the jar of one thread can have made, the items name its calls,
 -- and there is one alone. This jar's own rule: docs/DEFINITIONS.md.
-use Rattle.std.specs.Prelude.{ℕ, ◌≡◌, ◌≤◌, ◌+◌, List, [], ◌∷◌, length}
+use Rattle.std.specs.Prelude.{ℕ, ◌≡◌, ◌<◌, ◌≤◌, ◌+◌, ◌==◌, List, [], ◌∷◌, ◌++◌, length, Option, None, Some, if◌then◌else◌}
 use Rattle.jar_types.specs.declared.entry.Entry.{Entry}
 use Rattle.jar_types.specs.declared.entry.Entry.TheVariants.{Call, Jar}
+use Rattle.jar_types.specs.declared.op.Op.{Op}
+use Rattle.jar_types.specs.declared.op.Reply.{Reply}
 use Rattle.jar_types.specs.Journals.{Rules, IsLegal}
-use Rattle.public_suffix.specs.Rule.{SuffixRule}
 use Rattle.public_suffix.specs.Suffix.{key_of}
-use Rattle.script_run.specs.declared.text.draft.Draft.{Draft}
-use Rattle.script_run.specs.declared.text.script.Script.{Script}
-use Rattle.script_run.specs.declared.report.item.Item.{Item}
-use Rattle.script_run.specs.declared.report.item.Item.TheVariants.{At, Refused}
-use Rattle.script_run.specs.Text.Drafts.{IsScriptFrom}
-use Rattle.script_run.specs.Runs.{Run, Ends, run_start}
+use Rattle.run_report.specs.declared.item.Item.{Item}
+use Rattle.run_report.specs.declared.item.Item.TheVariants.{At, Refused}
+use Rattle.run_report.specs.declared.refusal_name.RefusalName.TheVariants.{Spent}
+use Rattle.script_text.specs.declared.script.Script.{Script}
+use Rattle.script_text.specs.declared.step.Step.{Step}
+use Rattle.script_text.specs.Admitted.{IsAdmitted}
+use Rattle.script_text.specs.Deadlocks.{steps_at}
+use Rattle.script_run.specs.declared.ask.Ask.{Ask}
+use Rattle.script_run.specs.declared.ask.Ask.TheVariants as ask
+use Rattle.script_run.specs.Ask.{ask_of}
+use Rattle.script_run.specs.Built.{IsBuilt}
+use Rattle.script_run.specs.Runs.{Run, Ends, items_at}
 
--- the rules of a run without stored cookies, of one caller who may make this many entries, with keys
--- by these suffix rules
-abbrev pub rules_of : List SuffixRule → ℕ → Rules
-rules_of suffixes limit = record {
+-- the rules of a script's run without stored cookies: its actors are the callers, who may make as many
+-- entries as its limit says, it starts at its start, and keys are by its suffix rules
+abbrev pub rules_of : Script → Rules
+rules_of script = record {
   hosts = [];
-  callers = 1;
-  limit = limit;
-  start = run_start;
-  key_of = key_of suffixes;
+  callers = length script.actors;
+  limit = script.limit;
+  start = script.start;
+  key_of = key_of script.suffixes;
 }
 
--- the journal of a script is legal by its suffix rules, wherever the caller may make an entry for
--- each step
+-- the journal of a script is legal
 abbrev pub SerialJournalsAreLegal : Type 0
 SerialJournalsAreLegal =
-    (draft : Draft) (script : Script) (run : Run) (limit : ℕ)
-    → IsScriptFrom draft script → Ends script run → length script.steps ≤ limit
-    → IsLegal (rules_of script.suffixes limit) run.journal
+    (script : Script) (run : Run) → IsAdmitted script → Ends script run → IsLegal (rules_of script) run.journal
 
--- the places of the callers' entries, where the first entry of the list has this place
-abbrev pub call_places : ℕ → List Entry → List ℕ
-call_places place [] = []
-call_places place (Call caller now op reply ∷ entries) = place ∷ call_places (place + 1) entries
-call_places place (Jar own ∷ entries) = call_places (place + 1) entries
+-- the places of a caller's entries, where the first entry of the list has this place
+abbrev pub call_places : ℕ → ℕ → List Entry → List ℕ
+call_places a place [] = []
+call_places a place (Call caller now op reply ∷ entries) =
+    if caller == a then place ∷ call_places a (place + 1) entries else call_places a (place + 1) entries
+call_places a place (Jar own ∷ entries) = call_places a (place + 1) entries
 
 -- the places that items name
 abbrev pub named_places : List Item → List ℕ
@@ -44,11 +49,51 @@ named_places [] = []
 named_places (At place ∷ items) = place ∷ named_places items
 named_places (Refused name ∷ items) = named_places items
 
--- the items of a script name the entries of its caller, each once and in their order
+-- the items of an actor name its entries, each once and in their order
 abbrev pub ItemsNameTheCalls : Type 0
 ItemsNameTheCalls =
-    (script : Script) (run : Run) → Ends script run
-    → named_places run.items ≡ call_places 1 run.journal
+    (script : Script) (run : Run) (a : ℕ) → Ends script run → a < length script.actors
+    → named_places (items_at run a) ≡ call_places a 1 run.journal
+
+-- how many entries of a journal callers have
+abbrev pub count_calls : List Entry → ℕ
+count_calls [] = 0
+count_calls (Call caller now op reply ∷ entries) = count_calls entries + 1
+count_calls (Jar own ∷ entries) = count_calls entries
+
+-- a place of a journal, counted from 1, has an actor's entry of this op at this moment
+pub record IsEntryAt (journal : List Entry) (place a now : ℕ) (op : Op) : Type 0 where
+  pub before : List Entry
+  pub reply : Reply
+  pub later : List Entry
+  pub is : journal ≡ before ++ (Call a now op reply ∷ later)
+  pub place_is : place ≡ length before + 1
+
+-- the item of a step that asks an op: its place, or that callers have as many entries as they may
+abbrev pub FitsOp : ℕ → List Entry → ℕ → ℕ → Op → Item → Type 0
+FitsOp limit journal a now op (At place) = IsEntryAt journal place a now op
+FitsOp limit journal a now op (Refused name) = (name ≡ Spent) × (limit ≤ count_calls journal)
+
+-- the item of a step that asks this
+abbrev pub FitsAsk : ℕ → List Entry → ℕ → ℕ → Option Ask → Item → Type 0
+FitsAsk limit journal a now None item = ⊥
+FitsAsk limit journal a now (Some (ask.Op op)) item = FitsOp limit journal a now op item
+FitsAsk limit journal a now (Some (ask.Refused name)) item = item ≡ Refused name
+
+-- these steps of an actor have these items, one each, in their order: a step that the definitions refuse
+-- by a name has that name, and each other one names its entry, or was refused at the limit
+abbrev pub FitEach : Script → List Entry → ℕ → List Step → List Item → Type 0
+FitEach script journal a [] [] = Unit {0}
+FitEach script journal a [] (item ∷ items) = ⊥
+FitEach script journal a (step ∷ steps) [] = ⊥
+FitEach script journal a (step ∷ steps) (item ∷ items) =
+    FitsAsk script.limit journal a step.now (ask_of script.suffixes step) item × FitEach script journal a steps items
+
+-- each actor has one item a step, and each fits its step
+abbrev pub ItemsFitTheSteps : Type 0
+ItemsFitTheSteps =
+    (script : Script) (run : Run) (a : ℕ) → IsAdmitted script → IsBuilt script → Ends script run → a < length script.actors
+    → FitEach script run.journal a (steps_at script.actors a) (items_at run a)
 
 -- a script ends in one way alone
 abbrev pub RunsAreOne : Type 0

@@ -1,10 +1,8 @@
-pub mod Text
-pub mod RefusalNames
-pub mod Reports
-pub mod ReportTokens
 pub mod Ask
+pub mod Built
 pub mod Runs
 pub mod Legal
+pub mod Listening
 pub mod Refusals
 pub mod Answers
 pub mod Tool

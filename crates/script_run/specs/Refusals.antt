@@ -3,17 +3,25 @@
 use Rattle.std.specs.Prelude.{ℕ, List, [], ◌∷◌, ◌++◌, codes}
 use Rattle.serde_json.specs.Data.{Data, string, object, no_members, member}
 use Rattle.serde_json.specs.Written.{compact_text}
-use Rattle.script_run.specs.declared.text.refused.Refusal.{Refusal}
-use Rattle.script_run.specs.declared.text.refused.Refusal.TheVariants as name
-use Rattle.script_run.specs.declared.text.refused.Refused.{Refused}
+use Rattle.script_text.specs.declared.refused.Refusal.{Refusal}
+use Rattle.script_text.specs.declared.refused.Refusal.TheVariants as name
+use Rattle.script_text.specs.declared.refused.Refused.{Refused}
 
 -- the word of a refusal
 abbrev pub refusal_word : Refusal → List ℕ
 refusal_word name.TooLarge = codes "TooLarge"
 refusal_word name.NotJson = codes "NotJson"
-refusal_word name.NotBuilt = codes "NotBuilt"
+refusal_word name.Shape = codes "Shape"
+refusal_word name.TooMany = codes "TooMany"
+refusal_word name.BadMoment = codes "BadMoment"
 refusal_word name.BadSuffixes = codes "BadSuffixes"
 refusal_word name.BadPlace = codes "BadPlace"
+refusal_word name.Deadlock = codes "Deadlock"
+refusal_word name.NotBuilt = codes "NotBuilt"
+
+-- a refusal of the whole text
+abbrev pub at_root : Refusal → Refused
+at_root name = record { name = name; path = [] }
 
 -- a refusal as JSON
 abbrev pub refusal_data : Refused → Data

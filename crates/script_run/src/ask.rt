@@ -1,15 +1,15 @@
 //! What a step asks of the jar.
 
-ghost use Rattle.std.specs.Prelude.{◌≡◌, IfOk};
+ghost use Rattle.std.specs.Prelude.{◌≡◌, IfOk, Some, true};
 ghost use Rattle.set_cookie_line.specs.Line.{read_line as line_read};
 ghost use Rattle.script_run.specs.Ask as spec;
+ghost use Rattle.script_run.specs.Built.{is_built};
 
-use crate::refusal_name::RefusalName;
-use crate::text::short_text::ShortText;
-use crate::text::step::{Step, What};
 use canonical_cookie::make;
-use jar_types::{Moment, NoMemory, Op, Request};
+use jar_types::{CookieId, Moment, NoMemory, Op, Request, Scope, Text, undotted};
 use public_suffix::Suffixes;
+use run_report::RefusalName;
+use script_text::{Step, What};
 use set_cookie_line::{Line, read_line};
 use site_match::{FetchAsk, context};
 use std::alloc::Global;
@@ -27,11 +27,22 @@ pub enum Ask {
 ///
 /// Only want of memory refuses. This jar's own rule: docs/DEFINITIONS.md.
 pub fn ask_of(alloc: Global, suffixes: &Suffixes, step: &Step) -> Result<Ask, NoMemory>
-    ensures { IfOk result (λ ask. ask ≡ spec.ask_of suffixes.now step.entry.now) }
+    requires { is_built step.now.what ≡ true }
+    ensures { IfOk result (λ ask. spec.ask_of suffixes.now step.entry.now ≡ Some ask) }
 {
     match &step.what {
         What::Set { ask, line } => ask_of_text(alloc, suffixes, ask, step.now, line),
         What::Get { ask } => Ok(Ask::Op(Op::Get(request_of(alloc, ask)?))),
+        What::Delete { host, name, path } => delete_of(alloc, suffixes, host, name, path),
+        What::Listen { ask, name } => Ok(Ask::Op(Op::Listen(scope_of(alloc, ask, name)?))),
+        What::Changes { listener } => Ok(Ask::Op(Op::Changes(*listener))),
+        What::Unlisten { listener } => Ok(Ask::Op(Op::Unlisten(*listener))),
+        What::Post => Ok(Ask::Op(Op::Post)),
+        What::Hear { actor, n } => Ok(Ask::Op(Op::Hear {
+            actor: *actor,
+            n: *n,
+        })),
+        What::All | What::Clear | What::Read { .. } | What::Write { .. } => unreachable!(),
     }
 }
 
@@ -41,7 +52,7 @@ fn ask_of_text(
     suffixes: &Suffixes,
     ask: &FetchAsk,
     now: Moment,
-    line: &ShortText,
+    line: &Text,
 ) -> Result<Ask, NoMemory>
     ensures { IfOk result (λ a. a
         ≡ spec.ask_of_line suffixes.now ask.entry.now now (line_read line.now)) }
@@ -73,7 +84,42 @@ fn ask_of_line(
     }
 }
 
-/// The request of a get.
+/// What a delete of the cookie of these texts asks.
+fn delete_of(
+    alloc: Global,
+    suffixes: &Suffixes,
+    host: &Text,
+    name: &Text,
+    path: &Text,
+) -> Result<Ask, NoMemory>
+    ensures { IfOk result (λ a. Some a ≡ spec.ask_at suffixes.now 0
+        (What.Delete host.now name.now path.now)) }
+{
+    Ok(Ask::Op(Op::Delete {
+        key: Text::of(alloc, suffixes.key(undotted(host.as_str())))?,
+        id: CookieId {
+            host: host.copy(alloc)?,
+            name: name.copy(alloc)?,
+            path: path.copy(alloc)?,
+        },
+    }))
+}
+
+/// Which changes a fetch listens to.
+fn scope_of(alloc: Global, ask: &Option<FetchAsk>, name: &Option<Text>) -> Result<Scope, NoMemory>
+    ensures { IfOk result (λ scope. scope ≡ spec.scope_of ask.entry.now name.now) }
+{
+    let Some(ask) = ask else {
+        return Ok(Scope::All);
+    };
+    let request = request_of(alloc, ask)?;
+    match name {
+        Some(name) => Ok(Scope::Named(request, name.copy(alloc)?)),
+        None => Ok(Scope::Seen(request)),
+    }
+}
+
+/// The request of a fetch.
 fn request_of(alloc: Global, ask: &FetchAsk) -> Result<Request, NoMemory>
     ensures { IfOk result (λ q. q ≡ spec.request_of ask.entry.now) }
 {

@@ -1,6 +1,7 @@
 //! Laws of the definitions.
 
-ghost use Rattle.script_run.specs.Legal.{ItemsNameTheCalls, RunsAreOne, SerialJournalsAreLegal};
+ghost use Rattle.script_run.specs.Listening.{ListenersAreToldFirst, ListenersAreToldOn};
+ghost use Rattle.script_run.specs.Legal.{ItemsFitTheSteps, ItemsNameTheCalls, RunsAreOne, SerialJournalsAreLegal};
 
 /// The journal of a script is legal by its suffix rules: each reply in it is that of the jar of one
 /// thread, and each entry may stand where it stands.
@@ -13,8 +14,26 @@ pub fn items_name_the_calls()
     ensures { ItemsNameTheCalls }
 {}
 
+/// Each actor has one item a step: a step that the definitions refuse has their name, and each other
+/// one names its entry, or was refused where callers had as many entries as they may.
+pub fn items_fit_the_steps()
+    ensures { ItemsFitTheSteps }
+{}
+
 /// A script ends in one way alone.
 #[tactic(auto, using(crate::proofs::RunLemmas::runs_are_one))]
 pub fn runs_are_one()
     ensures { RunsAreOne }
+{}
+
+/// In a legal journal the first answer to a listener has just the changes that its scope admits, of
+/// the entries since it was registered.
+pub fn listeners_are_told_first()
+    ensures { ListenersAreToldFirst }
+{}
+
+/// In a legal journal each later answer to a listener has just those of the entries since the answer
+/// before it.
+pub fn listeners_are_told_on()
+    ensures { ListenersAreToldOn }
 {}

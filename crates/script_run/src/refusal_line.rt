@@ -4,8 +4,8 @@ ghost use Rattle.std.specs.Prelude.{◌≡◌, IfOk};
 ghost use Rattle.serde_json.specs.View.{view};
 ghost use Rattle.script_run.specs.Refusals as spec;
 
-use crate::text::refused::{Refusal, Refused};
 use jar_types::NoMemory;
+use script_text::{Refusal, Refused};
 use serde_json::{Value, json};
 use std::alloc::{AllocError, Global};
 
@@ -33,8 +33,12 @@ fn refusal_word(name: Refusal) -> &'static str
     match name {
         Refusal::TooLarge => "TooLarge",
         Refusal::NotJson => "NotJson",
-        Refusal::NotBuilt => "NotBuilt",
+        Refusal::Shape => "Shape",
+        Refusal::TooMany => "TooMany",
+        Refusal::BadMoment => "BadMoment",
         Refusal::BadSuffixes => "BadSuffixes",
         Refusal::BadPlace => "BadPlace",
+        Refusal::Deadlock => "Deadlock",
+        Refusal::NotBuilt => "NotBuilt",
     }
 }

@@ -7,3 +7,4 @@ pub mod Rule
 pub mod Told
 pub mod Standing
 pub mod Answered
+pub mod Lists

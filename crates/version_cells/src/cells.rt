@@ -3,11 +3,14 @@
 use crate::rule::WordRule;
 use crate::view::View;
 use atomic_table::Table;
+use jar_types::MOST_CELLS;
 use std::alloc::Global;
 use std::marker::Model;
 
-/// How many cells there are, numbered from 1. This jar's own rule: docs/DEFINITIONS.md.
-pub const CELLS: u32 = 4096;
+/// How many cells there are, numbered from 1: as many as keys can be bound.
+///
+/// This jar's own rule: docs/DEFINITIONS.md.
+pub const CELLS: u32 = MOST_CELLS;
 
 /// How many words there are: the number of entries, and the version of each cell.
 pub const WORDS: usize = CELLS as usize + 1;

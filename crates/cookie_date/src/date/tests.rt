@@ -88,22 +88,21 @@ fn times_and_days_that_do_not_exist_fail(rt: HostRuntime) {
 #[test]
 fn every_month_is_read_in_any_case(rt: HostRuntime) {
     let months = [
-        ("jAN", 0),
-        ("Feb", 31),
-        ("MAR", 59),
-        ("apRil", 90),
-        ("May", 120),
-        ("jun", 151),
-        ("JULY", 181),
-        ("aUg", 212),
-        ("SeptEmber", 243),
-        ("oct", 273),
-        ("nOv", 304),
-        ("DECEMBER", 334),
+        ("1 jAN 1970 0:0:0", 0),
+        ("1 Feb 1970 0:0:0", 31),
+        ("1 MAR 1970 0:0:0", 59),
+        ("1 apRil 1970 0:0:0", 90),
+        ("1 May 1970 0:0:0", 120),
+        ("1 jun 1970 0:0:0", 151),
+        ("1 JULY 1970 0:0:0", 181),
+        ("1 aUg 1970 0:0:0", 212),
+        ("1 SeptEmber 1970 0:0:0", 243),
+        ("1 oct 1970 0:0:0", 273),
+        ("1 nOv 1970 0:0:0", 304),
+        ("1 DECEMBER 1970 0:0:0", 334),
     ];
-    for (month, day) in months {
-        let text = format!(in rt.alloc(); "1 {month} 1970 00:00:00").expect(&rt, "memory");
-        assert_eq!(rt; date_of(text.as_str()), Some(day * 86_400_000), "{month}");
+    for (text, day) in months {
+        assert_eq!(rt; date_of(text), Some(day * 86_400_000), "{text}");
     }
 }
 

@@ -1,6 +1,7 @@
 //! What bars a Set: a Secure cookie an insecure source, an HttpOnly one a script. The 6265bis draft, section 5.7.
 
-use super::rows::{Row, SET, gives, set};
+use super::rows::{Row, SET, set};
+use super::runs::gives;
 use std::test::Fail;
 
 #[test]

@@ -1,6 +1,5 @@
 use Rattle.std.proofs.Common.{sym, ◌∙◌}
 use Rattle.std.proofs.lemmas.Result.{IfOk-weaker}
-use Rattle.jar_types.specs.Evictions.{cookie_looks}
 use Rattle.eviction.specs.Faces.{ArePlaces, face_looks, faces_of}
 use Rattle.jar_types.specs.Plans.{jar_plan}
 use Rattle.plain_jar.proofs.PlanLemmas.{ties_differ, jar_places_within, jar_plan_taken}

@@ -1,4 +1,4 @@
-use Rattle.script_run.proofs.LegalLemmas.{calls_named}
+use Rattle.script_run.proofs.NameLemmas.{calls_named}
 use Rattle.script_run.proofs.law.items_name_the_calls.Goals as goal
 
 pub returns : goal.returns

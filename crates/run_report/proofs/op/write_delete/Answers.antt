@@ -1,0 +1,12 @@
+use Rattle.run_report.proofs.TokenLemmas.{token, and_then}
+use Rattle.run_report.proofs.op.write_delete.Goals as goal
+
+pub returns : goal.returns
+returns c =
+    and_then (token c.in_ok-begin_object.ensures)
+    (and_then c.in_ok-write_text.ensures
+    (and_then c.in_ok-write_text-2.ensures
+    (and_then c.in_ok-write_word.ensures
+    (and_then c.in_ok-write_text-3.ensures
+    (and_then c.in_ok-write_text-4.ensures
+    (token c.in_ok-end_object.ensures))))))

@@ -1,0 +1,11 @@
+pub mod RefusalNames
+pub mod Values
+pub mod Cookies
+pub mod Requests
+pub mod Ops
+pub mod Changes
+pub mod Replies
+pub mod Entries
+pub mod Items
+pub mod Reports
+pub mod Tokens

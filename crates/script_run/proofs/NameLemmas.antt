@@ -1,0 +1,169 @@
+-- Why the items of an actor name its calls.
+use Rattle.std.proofs.Common.{◌≡◌, ◌≢◌, ◌<◌, ◌≤◌, ◌+◌, ◌⊎◌, ℕ, suc, zero, List, [], ◌∷◌, ◌++◌, Bool, true, false, cond, Option, None, Some, length, replicate, refl, ap, sym, ◌∙◌, arith, subst, inl, inr, length-append, length-set, append-nil, get_or-set_same, get_or-set_other}
+use Rattle.std.specs.Prelude.{◌==◌, nat_le, slice_index_or}
+use Rattle.std.proofs.lemmas.Bool.{cases_eq}
+use Rattle.std.proofs.lemmas.Bool.Decides.{nat_tests}
+use Rattle.jar_types.specs.declared.op.Op.{Op}
+use Rattle.jar_types.specs.declared.entry.Own.TheVariants.{Whole}
+use Rattle.jar_types.specs.declared.entry.Event.TheVariants.{Call as CallEvent, Jar as JarEvent}
+use Rattle.jar_types.specs.declared.entry.Entry.{Entry}
+use Rattle.jar_types.specs.declared.entry.Entry.TheVariants.{Call, Jar}
+use Rattle.jar_types.specs.Posts.{op_wanting}
+use Rattle.jar_types.specs.States.{JarState}
+use Rattle.jar_types.specs.Steps.{entry_of, own_may_stand}
+use Rattle.run_report.specs.declared.item.Item.{Item}
+use Rattle.run_report.specs.declared.item.Item.TheVariants.{At, Refused}
+use Rattle.run_report.specs.declared.refusal_name.RefusalName.{RefusalName}
+use Rattle.run_report.specs.declared.refusal_name.RefusalName.TheVariants.{Spent}
+use Rattle.script_text.specs.declared.script.Script.{Script}
+use Rattle.script_text.specs.declared.step.Step.{Step}
+use Rattle.script_run.specs.declared.ask.Ask.{Ask}
+use Rattle.script_run.specs.declared.ask.Ask.TheVariants as ask
+use Rattle.script_run.specs.Ask.{ask_of}
+use Rattle.script_run.specs.Legal.{call_places, named_places, ItemsNameTheCalls}
+use Rattle.script_run.specs.Runs.{Run, items_at, noted, called, called_where, called_within, asked, tried_step, next_step, tried_first, happened_where, rounds}
+
+-- ---- one more item and one more entry
+
+named_push : (items : List Item) (p : ℕ) → named_places (items ++ At p ∷ []) ≡ named_places items ++ p ∷ []
+named_push [] p = refl
+named_push (At q ∷ items) p = ap (λ ps. q ∷ ps) (named_push items p)
+named_push (Refused name ∷ items) p = named_push items p
+
+refused_push : (items : List Item) (name : RefusalName) → named_places (items ++ Refused name ∷ []) ≡ named_places items
+refused_push [] name = refl
+refused_push (At q ∷ items) name = ap (λ ps. q ∷ ps) (refused_push items name)
+refused_push (Refused other ∷ items) name = refused_push items name
+
+-- the place of a call where it is this caller's
+abbrev added : Bool → ℕ → List ℕ
+added own place = cond own (place ∷ []) []
+
+first_place : (own : Bool) (p : ℕ) (places more : List ℕ) → cond own (p ∷ (places ++ more)) (places ++ more) ≡ cond own (p ∷ places) places ++ more
+first_place true p places more = refl
+first_place false p places more = refl
+
+last_place : (own : Bool) (p q : ℕ) → p ≡ q → cond own (p ∷ []) [] ≡ added own q
+last_place own p q e = ap (added own) e
+
+call_push : (a caller p : ℕ) (journal : List Entry) (s : JarState) (now : ℕ) (op : Op)
+    → call_places a p (journal ++ entry_of s (CallEvent caller now op) ∷ []) ≡ call_places a p journal ++ added (caller == a) (p + length journal)
+call_push a caller p [] s now op = last_place (caller == a) p (p + 0) (omega arith)
+call_push a caller p (Call other at asks reply ∷ es) s now op =
+    ap (λ places. cond (other == a) (p ∷ places) places)
+    (call_push a caller (p + 1) es s now op ∙ ap (λ n. call_places a (p + 1) es ++ added (caller == a) n) (omega arith))
+    ∙ first_place (other == a) p (call_places a (p + 1) es) (added (caller == a) (p + suc (length es)))
+call_push a caller p (Jar own ∷ es) s now op =
+    call_push a caller (p + 1) es s now op ∙ ap (λ n. call_places a (p + 1) es ++ added (caller == a) n) (omega arith)
+
+own_push : (a p : ℕ) (journal : List Entry) (s : JarState) (start : ℕ)
+    → call_places a p (journal ++ entry_of s (JarEvent (Whole start)) ∷ []) ≡ call_places a p journal
+own_push a p [] s start = refl
+own_push a p (Call caller at asks reply ∷ es) s start =
+    ap (λ places. cond (caller == a) (p ∷ places) places) (own_push a (p + 1) es s start)
+own_push a p (Jar own ∷ es) s start = own_push a (p + 1) es s start
+
+-- ---- the run so far
+
+-- there are as many lists as actors, and each names the calls of its actor
+record Named (n : ℕ) (r : Run) : Type 0 where
+  many : length r.items ≡ n
+  named : (a : ℕ) → a < n → named_places (items_at r a) ≡ call_places a 1 r.journal
+
+none_at : (n a : ℕ) → slice_index_or (replicate n []) a [] ≡ replicate {A = Item} 0 (Refused Spent)
+none_at zero a = refl
+none_at (suc n) zero = refl
+none_at (suc n) (suc a) = none_at n a
+
+abbrev no_items : ℕ → List (List Item)
+no_items n = replicate n []
+
+length_no_items : (n : ℕ) → length (no_items n) ≡ n
+length_no_items zero = refl
+length_no_items (suc n) = ap suc (length_no_items n)
+
+-- a refusal names nothing
+refused_at : (n b a : ℕ) (r : Run) (name : RefusalName) → Named n r → b < n → (a ≡ b) ⊎ (a ≢ b) → a < n
+    → named_places (items_at (noted b r (Refused name)) a) ≡ call_places a 1 r.journal
+refused_at n b a r name all low (inl same) within =
+    rw same (ap named_places (get_or-set_same r.items b (items_at r b ++ Refused name ∷ []) [] (omega (arith, low, all.many)))
+    ∙ (refused_push (items_at r b) name ∙ all.named b low))
+refused_at n b a r name all low (inr other) within =
+    ap named_places (get_or-set_other r.items b a (items_at r b ++ Refused name ∷ []) [] other) ∙ all.named a within
+
+refused_named : (n b : ℕ) (r : Run) (name : RefusalName) → Named n r → b < n → Named n (noted b r (Refused name))
+refused_named n b r name all low = record {
+  many = length-set r.items b _ ∙ all.many;
+  named = λ a within. refused_at n b a r name all low (cases_eq a b) within;
+}
+
+same_is : (n : ℕ) → (n == n) ≡ true
+same_is n = grind (arith, nat_tests)
+
+other_is : (b a : ℕ) → a ≢ b → (b == a) ≡ false
+other_is b a ne = grind (arith, nat_tests)
+
+called_at : (n b a : ℕ) (r : Run) (now : ℕ) (op : Op) → Named n r → b < n → (a ≡ b) ⊎ (a ≢ b) → a < n
+    → named_places (items_at (called b r now op) a) ≡ call_places a 1 (called b r now op).journal
+called_at n b a r now op all low (inl same) within =
+    let place = length (r.journal ++ entry_of r.state (CallEvent b now op) ∷ []) in
+    let next : place ≡ 1 + length r.journal = length-append r.journal (entry_of r.state (CallEvent b now op) ∷ []) ∙ omega arith in
+    rw same (ap named_places (get_or-set_same r.items b (items_at r b ++ At place ∷ []) [] (omega (arith, low, all.many)))
+    ∙ (named_push (items_at r b) place
+    ∙ (ap (λ places. places ++ place ∷ []) (all.named b low)
+    ∙ (ap (λ p. call_places b 1 r.journal ++ p ∷ []) next
+    ∙ sym (call_push b b 1 r.journal r.state now op ∙ ap (λ own. call_places b 1 r.journal ++ added own (1 + length r.journal)) (same_is b))))))
+called_at n b a r now op all low (inr other) within =
+    let place = length (r.journal ++ entry_of r.state (CallEvent b now op) ∷ []) in
+    ap named_places (get_or-set_other r.items b a (items_at r b ++ At place ∷ []) [] other)
+    ∙ (all.named a within
+    ∙ sym (call_push a b 1 r.journal r.state now op
+    ∙ (ap (λ own. call_places a 1 r.journal ++ added own (1 + length r.journal)) (other_is b a other) ∙ append-nil (call_places a 1 r.journal))))
+
+where_named : (n b : ℕ) (r : Run) (now : ℕ) (op : Op) (o : Option ℕ) → Named n r → b < n → Named n (called_where o b r now op)
+where_named n b r now op (Some found) all low = all
+where_named n b r now op None all low = record {
+  many = length-set r.items b _ ∙ all.many;
+  named = λ a within. called_at n b a r now op all low (cases_eq a b) within;
+}
+
+within_named : (n b : ℕ) (r : Run) (now : ℕ) (op : Op) (full : Bool) → Named n r → b < n → Named n (called_within full b r now op)
+within_named n b r now op true all low = refused_named n b r Spent all low
+within_named n b r now op false all low = where_named n b r now op (op_wanting r.state op) all low
+
+asked_named : (script : Script) (n b : ℕ) (r : Run) (now : ℕ) (o : Option Ask) → Named n r → b < n → Named n (asked script b r now o)
+asked_named script n b r now None all low = all
+asked_named script n b r now (Some (ask.Op op)) all low = within_named n b r now op (nat_le script.limit r.state.calls) all low
+asked_named script n b r now (Some (ask.Refused name)) all low = refused_named n b r name all low
+
+step_named : (script : Script) (n b : ℕ) (r : Run) (o : Option Step) → Named n r → b < n → Named n (tried_step script b r o)
+step_named script n b r None all low = all
+step_named script n b r (Some step) all low = asked_named script n b r step.now (ask_of script.suffixes step) all low
+
+first_named : (script : Script) (n k : ℕ) (r : Run) → Named n r → k ≤ n → Named n (tried_first script k r)
+first_named script n zero r all few = all
+first_named script n (suc k) r all few =
+    let t = tried_first script k r in
+    step_named script n k t (next_step script k t) (first_named script n k r all (omega (arith, few))) (omega (arith, few))
+
+load_named : (n start : ℕ) (r : Run) (is : Bool) → Named n r → Named n (happened_where is r (JarEvent (Whole start)))
+load_named n start r false all = all
+load_named n start r true all = record {
+  many = all.many;
+  named = λ a within. all.named a within ∙ sym (own_push a 1 r.journal r.state start);
+}
+
+rounds_named : (script : Script) (k : ℕ) → Named (length script.actors) (rounds script k)
+rounds_named script zero = record {
+  many = length_no_items (length script.actors);
+  named = λ a within. ap named_places (none_at (length script.actors) a);
+}
+rounds_named script (suc k) =
+    let n = length script.actors in
+    let r = rounds script k in
+    let t = tried_first script n r in
+    load_named n script.start t (own_may_stand t.state (Whole script.start)) (first_named script n n r (rounds_named script k) (omega arith))
+
+pub calls_named : ItemsNameTheCalls
+calls_named script run a ends low =
+    subst (λ (r : Run). named_places (items_at r a) ≡ call_places a 1 r.journal) (sym ends.is) ((rounds_named script ends.count).named a low)

@@ -1,4 +1,0 @@
-use Rattle.script_run.proofs.report.entry.write_op.Goals as goal
-
-pub returns-in-Set : goal.returns-in-Set
-returns-in-Set c = rw c.in-Set.is c.write_set.ensures

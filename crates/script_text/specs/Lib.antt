@@ -1,0 +1,10 @@
+pub mod Deadlocks
+pub mod Members
+pub mod Drafts
+pub mod Readings
+pub mod Walk
+pub mod Placed
+pub mod Form
+pub mod Counts
+pub mod Scripts
+pub mod Admitted
