@@ -2,6 +2,8 @@
 #![tactic(auto)]
 
 use jar_edge::{StdSink, StdSource};
+use jar_keeper::MemKeeper;
+use jar_types::Rows;
 use script_run::serial_tool;
 use std::alloc::{AllocError, Global};
 use std::process::ExitCode;
@@ -28,6 +30,12 @@ fn texts_of(alloc: Global, words: &[String]) -> Result<Vec<&str>, AllocError> {
     Ok(texts)
 }
 
+/// A keeper without rows that never fails.
+#[tactic(auto, using(jar_keeper::proofs::RowLemmas::none_rise))]
+fn no_rows(alloc: Global) -> MemKeeper {
+    MemKeeper::of(alloc, Rows::new(alloc), Vec::new(alloc))
+}
+
 fn main(rt: HostRuntime) -> ExitCode {
     let words = match words_of(&rt) {
         Ok(words) => words,
@@ -42,5 +50,8 @@ fn main(rt: HostRuntime) -> ExitCode {
     };
     let mut source = StdSource::of(rt.stdin());
     let mut sink = StdSink::of(rt.stdout());
-    ExitCode::from(serial_tool(rt.alloc(), texts.as_slice(), &mut source, &mut sink))
+    let alloc = rt.alloc();
+    let keeper = no_rows(alloc);
+    let outcome = serial_tool(alloc, texts.as_slice(), &mut source, &mut sink, keeper);
+    ExitCode::from(outcome.status)
 }

@@ -1,6 +1,7 @@
--- Tallies, listeners, deletes and posts at worked values. These are this jar's own rules: docs/DEFINITIONS.md.
-use Rattle.std.proofs.Common.{◌≡◌, ℕ, List, [], ◌∷◌, ◌++◌, true, false, None, Some, refl}
-use Rattle.std.specs.Prelude.{codes, Option}
+-- Tallies, listeners, deletes and posts at worked values. These are this jar's own rules:
+-- docs/DEFINITIONS.md.
+use Rattle.std.proofs.Common.{◌≡◌, List, [], ◌∷◌, ◌++◌, true, false, None, Some, refl}
+use Rattle.std.specs.Prelude.{codes}
 use Rattle.jar_types.proofs.FactValues.{a, named, q, b, b', old, other, hidden, by_script}
 use Rattle.jar_types.specs.declared.change.Change.{Change}
 use Rattle.jar_types.specs.declared.cookie.Cookie.{Cookie}
@@ -20,10 +21,11 @@ use Rattle.jar_types.specs.Changes.{inserted, taken_away, overwritten, expired}
 use Rattle.jar_types.specs.Deletes.{delete_step}
 use Rattle.jar_types.specs.HistoryLaws.{heard, spares}
 use Rattle.jar_types.specs.Listeners.{admits, hears, listen_step, changes_step, unlisten_step}
-use Rattle.jar_types.specs.Posts.{post_step, hear_step, posts_wanting, Refuses}
+use Rattle.jar_types.specs.Posts.{post_step, hear_step, op_wanting}
 use Rattle.jar_types.specs.States.{JarState, opening, replied}
 use Rattle.jar_types.specs.Steps.{after}
 use Rattle.jar_types.specs.Tallies.{tally_of, counted}
+use Rattle.jar_types.specs.Waits.{Refuses}
 
 -- an empty jar
 abbrev s : JarState
@@ -51,7 +53,8 @@ counted_entries = (refl, refl, refl, refl)
 
 -- ---- listeners
 
--- All admits each cookie, Seen those that the request matches, Named those of them that have the name
+-- All admits each cookie, Seen those that the request matches, Named those of them that have the
+-- name
 admitted_by_all : (admits All 9 a ≡ true) × (admits All 9 other ≡ true) × (admits All 9 hidden ≡ true)
 admitted_by_all = (refl, refl, refl)
 
@@ -162,13 +165,10 @@ first_post : (post_step (record s { posts = tallies }) 1).reply ≡ Posted 1
 first_post = refl
 
 -- a Hear wants so many of its actor, and no other op wants any
-abbrev wanting : JarState → ℕ → ℕ → Option ℕ
-wanting t actor n = posts_wanting t (CallEvent 7 5 (Hear actor n))
-
-waits : (wanting (record s { posts = tallies }) 0 2 ≡ None) × (wanting (record s { posts = tallies }) 0 3 ≡ Some 2)
-    × (wanting (record s { posts = tallies }) 1 1 ≡ Some 0) × (wanting s 0 0 ≡ None)
-    × (posts_wanting s (CallEvent 7 5 Post) ≡ None) × (posts_wanting s (JarEvent (Whole 5)) ≡ None)
-waits = (refl, refl, refl, refl, refl, refl)
+wanting : (op_wanting (record s { posts = tallies }) (Hear 0 2) ≡ None) × (op_wanting (record s { posts = tallies }) (Hear 0 3) ≡ Some 2)
+    × (op_wanting (record s { posts = tallies }) (Hear 1 1) ≡ Some 0) × (op_wanting s (Hear 0 0) ≡ None)
+    × (op_wanting s Post ≡ None)
+wanting = (refl, refl, refl, refl, refl)
 
 heard_post : hear_step (record s { posts = tallies }) ≡ replied (record s { posts = tallies }) Heard
 heard_post = refl
@@ -178,7 +178,7 @@ refused : Refuses s (CallEvent 7 5 (Hear 1 1)) (NotYet 0)
 refused = refl
 
 not_refused : Refuses (record s { posts = tallies }) (CallEvent 7 5 (Hear 0 2)) (NotYet 2) → ⊥
-not_refused h = let e : None ≡ Some 2 = h in absurd cc
+not_refused h = let e : None ≡ Some (NotYet 2) = h in absurd cc
 
 waits_first : Refuses s (CallEvent 7 5 (Hear 1 1)) NoMemory → ⊥
-waits_first h = let e : Some 0 ≡ None = h in absurd cc
+waits_first h = let e : false ≡ true = h.0 in absurd cc

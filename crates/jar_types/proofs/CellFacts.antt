@@ -1,5 +1,5 @@
--- Cells and their versions, the keys that changes move, and answers to scripts, at worked values. These are this jar's own
--- rules: docs/DEFINITIONS.md.
+-- Cells and their versions, the keys that changes move, and answers to scripts, at worked values.
+-- These are this jar's own rules: docs/DEFINITIONS.md.
 use Rattle.std.proofs.Common.{◌≡◌, ℕ, List, [], ◌∷◌, ◌++◌, false, None, Some, refl, replicate}
 use Rattle.std.specs.Prelude.{codes}
 use Rattle.jar_types.proofs.FactValues.{a, named, q, b, old, other, hidden, by_script}
@@ -84,7 +84,8 @@ refresh_turns_none : VersionsAfter (with (a ∷ [])) (CallEvent 0 60005 (Get q))
     × ((after (with (a ∷ [])) (CallEvent 0 60005 (Get q))).cookies ≡ record a { access = 60005 } ∷ [])
 refresh_turns_none = (refl, refl)
 
--- how many of these events changed a cookie of the key: a Set, a Get that refreshes, a Set of another key, a purge
+-- how many of these events changed a cookie of the key: a Set, a Get that refreshes, a Set of
+-- another key, the jar that becomes whole, and a Set of an expired cookie in the place of one
 turned_twice : turns (codes "h.test") s
     (CallEvent 0 5 (Set a false false) ∷ CallEvent 0 60005 (Get q) ∷ CallEvent 0 60005 (Set other false false)
     ∷ JarEvent (Whole 60005) ∷ CallEvent 0 60006 (Set (record a { expiry = Some 9 }) false false) ∷ []) ≡ 2

@@ -8,9 +8,9 @@ use Rattle.jar_types.specs.declared.bound_key.TheConstants.{MOST_CELLS}
 use Rattle.jar_types.specs.declared.change.Change.{Change}
 use Rattle.jar_types.specs.declared.cookie.Cookie.{Cookie}
 use Rattle.jar_types.specs.declared.entry.Event.TheVariants.{Call as CallEvent, Jar as JarEvent}
-use Rattle.jar_types.specs.declared.entry.Own.TheVariants.{Whole}
+use Rattle.jar_types.specs.declared.jar_core.Awaited.{Awaited}
 use Rattle.jar_types.specs.declared.op.Op.{Op}
-use Rattle.jar_types.specs.declared.op.Op.TheVariants.{Bind, Set, Get, Delete, Listen, Changes, Unlisten, Post, Hear}
+use Rattle.jar_types.specs.declared.op.Op.TheVariants.{Bind, Set, Get, Delete, All, Clear, Listen, Changes, Unlisten, Post, Hear}
 use Rattle.jar_types.specs.declared.op.Reply.{Reply}
 use Rattle.jar_types.specs.declared.tally.Tally.{Tally}
 use Rattle.jar_types.specs.Bound.{bound_where, cell_of, changes_key, is_bound_to, turned, version_of}
@@ -19,8 +19,9 @@ use Rattle.jar_types.specs.Counts.{TalliesUpTo, VersionsUpTo, IsCounted, Entries
 use Rattle.jar_types.specs.Purges.{purge}
 use Rattle.jar_types.specs.Sets.{barred, set_where}
 use Rattle.jar_types.specs.States.{JarState}
-use Rattle.jar_types.specs.Steps.{changes_at, op_step}
+use Rattle.jar_types.specs.Steps.{call_step, call_where, changes_at, op_step}
 use Rattle.jar_types.specs.Tallies.{counted}
+use Rattle.jar_types.specs.Waits.{faulted, needs}
 
 more_tallies : (n : ℕ) (ts : List Tally) → TalliesUpTo n ts → TalliesUpTo (n + 1) ts
 more_tallies n [] all = tt
@@ -110,6 +111,10 @@ op_counts s caller now (Get request) all =
     let same = same_counts s all in record { calls = refl; entries = refl; posts = same.posts; listens = same.listens; versions = same.versions; cells = same.cells }
 op_counts s caller now (Delete key id) all =
     let same = same_counts s all in record { calls = refl; entries = refl; posts = same.posts; listens = same.listens; versions = same.versions; cells = same.cells }
+op_counts s caller now All all =
+    let same = same_counts s all in record { calls = refl; entries = refl; posts = same.posts; listens = same.listens; versions = same.versions; cells = same.cells }
+op_counts s caller now Clear all =
+    let same = same_counts s all in record { calls = refl; entries = refl; posts = same.posts; listens = same.listens; versions = same.versions; cells = same.cells }
 op_counts s caller now (Listen scope) all =
     let same = same_counts s all in record {
       calls = refl;
@@ -134,10 +139,16 @@ op_counts s caller now Post all =
     }
 op_counts s caller now (Hear actor n) all = same_counts s all
 
+call_counts : (fault : Option Awaited) (s : JarState) (caller now : ℕ) (op : Op) → IsCounted s
+    → LeavesCounts s (call_where fault s caller now op).state
+call_counts (Some what) s caller now op all =
+    let same = same_counts s all in record { calls = refl; entries = refl; posts = same.posts; listens = same.listens; versions = same.versions; cells = same.cells }
+call_counts None s caller now op all = op_counts s caller now op all
+
 pub entries_count : EntriesCount
 entries_count s (CallEvent caller now op) all =
-    let step = op_step s caller now op in
-    let left = op_counts s caller now op all in
+    let step = call_step s caller now op in
+    let left = call_counts (faulted s.loads (needs op)) s caller now op all in
     let calls = left.calls in
     let entries = left.entries in
     let fewer = all.calls in
@@ -148,15 +159,15 @@ entries_count s (CallEvent caller now op) all =
       versions = rw entries (turned_versions s.entries step.changes step.state.bound left.versions);
       cells = turned_cells step.changes step.state.bound left.cells;
     }
-entries_count s (JarEvent (Whole now)) all =
+entries_count s (JarEvent own) all =
     let same = same_counts s all in
     let fewer = all.calls in
     record {
       calls = omega (arith, fewer);
       posts = same.posts;
       listens = same.listens;
-      versions = turned_versions s.entries (changes_at s (JarEvent (Whole now))) s.bound all.versions;
-      cells = turned_cells (changes_at s (JarEvent (Whole now))) s.bound all.cells;
+      versions = turned_versions s.entries (changes_at s (JarEvent own)) s.bound all.versions;
+      cells = turned_cells (changes_at s (JarEvent own)) s.bound all.cells;
     }
 
 -- each of these is what all are
@@ -202,14 +213,14 @@ pub record HasRoom (t : JarState) : Type 0 where
   pub entries : t.entries < 2 ^ 64 - 1
   pub versions : VersionsUpTo (2 ^ 64 - 2) t.bound
 
-pub op_room : (s : JarState) (caller now : ℕ) (op : Op) → IsCounted s → s.entries < 2 ^ 64 - 1 → HasRoom (op_step s caller now op).state
+pub op_room : (s : JarState) (caller now : ℕ) (op : Op) → IsCounted s → s.entries < 2 ^ 64 - 1 → HasRoom (call_step s caller now op).state
 op_room s caller now op all room =
-    let left = op_counts s caller now op all in
+    let left = call_counts (faulted s.loads (needs op)) s caller now op all in
     let calls = left.calls in
     let entries = left.entries in
     let fewer = all.calls in
     record {
       calls = omega (arith, calls, fewer, room);
       entries = omega (arith, entries, room);
-      versions = more_versions s.entries (2 ^ 64 - 2) (op_step s caller now op).state.bound (omega (arith, room)) left.versions;
+      versions = more_versions s.entries (2 ^ 64 - 2) (call_step s caller now op).state.bound (omega (arith, room)) left.versions;
     }

@@ -1,4 +1,5 @@
--- What listeners have and how cells are turned after events: one lemma an op, and the induction over events.
+-- What listeners have and how cells are turned after events: one lemma an op, and the induction
+-- over events.
 use Rattle.std.proofs.Common.{◌≡◌, ◌+◌, ℕ, List, [], ◌∷◌, ◌++◌, Bool, true, false, cond, refl, sym, ap, ◌∙◌, arith, append_assoc, append-nil}
 use Rattle.std.specs.Prelude.{map, length, nat_lt, find, not, ◌&&◌, ◌==◌, Option, None, Some, option_map}
 use Rattle.std.specs.List.{list_all}
@@ -9,10 +10,10 @@ use Rattle.jar_types.specs.declared.change.Change.{Change}
 use Rattle.jar_types.specs.declared.cookie.Cookie.{Cookie}
 use Rattle.jar_types.specs.declared.entry.Event.{Event}
 use Rattle.jar_types.specs.declared.entry.Event.TheVariants.{Call as CallEvent, Jar as JarEvent}
-use Rattle.jar_types.specs.declared.entry.Own.TheVariants.{Whole}
+use Rattle.jar_types.specs.declared.jar_core.Awaited.{Awaited}
 use Rattle.jar_types.specs.declared.listener.Listener.{Listener}
 use Rattle.jar_types.specs.declared.op.Op.{Op}
-use Rattle.jar_types.specs.declared.op.Op.TheVariants.{Bind, Set, Get, Delete, Listen, Changes, Unlisten, Post, Hear}
+use Rattle.jar_types.specs.declared.op.Op.TheVariants.{Bind, Set, Get, Delete, All, Clear, Listen, Changes, Unlisten, Post, Hear}
 use Rattle.jar_types.specs.declared.op.Reply.{Reply}
 use Rattle.jar_types.specs.Bound.{is_bound_to, bound_where, cell_of, changes_key, turned, version_of}
 use Rattle.jar_types.specs.Changes.{Changed}
@@ -21,8 +22,9 @@ use Rattle.jar_types.specs.Listeners.{admitted, hears, is_listener, listener_at,
 use Rattle.jar_types.specs.Purges.{purge}
 use Rattle.jar_types.specs.Sets.{barred, set_where, set_step}
 use Rattle.jar_types.specs.States.{JarState}
-use Rattle.jar_types.specs.Steps.{after, changes_at, op_step, told}
+use Rattle.jar_types.specs.Steps.{after, call_step, call_where, changes_at, op_step, own_moment, own_step, told}
 use Rattle.jar_types.specs.Tallies.{counted, tally_of}
+use Rattle.jar_types.specs.Waits.{faulted, needs}
 use Rattle.jar_types.proofs.FindLemmas.{find_mapped, find_longer, find_kept, find_passes}
 
 -- a Set changes the cookies of the state alone
@@ -86,6 +88,8 @@ op_leaves s other now (Set cookie script secure) caller number l e spared =
     ap (listener_at caller number) (set_listeners s now cookie script secure) ∙ e
 op_leaves s other now (Get request) caller number l e spared = e
 op_leaves s other now (Delete key id) caller number l e spared = e
+op_leaves s other now All caller number l e spared = e
+op_leaves s other now Clear caller number l e spared = e
 op_leaves s other now (Listen scope) caller number l e spared =
     let n = tally_of other (counted other s.listens) in
     find_longer (is_listener caller number) s.listeners (registered other n scope ∷ []) l e
@@ -97,6 +101,12 @@ op_leaves s other now (Unlisten wanted) caller number l e spared =
 op_leaves s other now Post caller number l e spared = e
 op_leaves s other now (Hear actor n) caller number l e spared = e
 
+call_leaves : (fault : Option Awaited) (s : JarState) (other now : ℕ) (op : Op) (caller number : ℕ) (l : Listener)
+    → listener_at caller number s.listeners ≡ Some l → cond (other == caller) (op_spares number op) true ≡ true
+    → listener_at caller number (call_where fault s other now op).state.listeners ≡ Some l
+call_leaves (Some what) s other now op caller number l e spared = e
+call_leaves None s other now op caller number l e spared = op_leaves s other now op caller number l e spared
+
 -- it hears of the changes
 told_hears : (now : ℕ) (changes : List Change) (s : JarState) (caller number : ℕ) (l : Listener) → listener_at caller number s.listeners ≡ Some l
     → listener_at caller number (told now changes s).listeners ≡ Some (hears now changes l)
@@ -107,10 +117,10 @@ event_hears : (s : JarState) (v : Event) (caller number : ℕ) (l : Listener) �
     → spares caller number v ≡ true
     → listener_at caller number (after s v).listeners ≡ Some (hears (moment_of v) (changes_at s v) l)
 event_hears s (CallEvent other now op) caller number l e spared =
-    let step = op_step s other now op in
-    told_hears now step.changes step.state caller number l (op_leaves s other now op caller number l e spared)
-event_hears s (JarEvent (Whole now)) caller number l e spared =
-    told_hears now (changes_at s (JarEvent (Whole now))) (record s { whole = true }) caller number l e
+    let step = call_step s other now op in
+    told_hears now step.changes step.state caller number l (call_leaves (faulted s.loads (needs op)) s other now op caller number l e spared)
+event_hears s (JarEvent own) caller number l e spared =
+    let step = own_step s own in told_hears (own_moment own) step.changes step.state caller number l e
 
 pub listeners_hear : ListenersHear
 listeners_hear s [] caller number l e spared = e ∙ ap (λ all. Some (record l { untaken = all })) (sym (append-nil l.untaken))
@@ -193,19 +203,26 @@ op_version s caller now (Bind other) key version e = bound_version (cell_of othe
 op_version s caller now (Set cookie script secure) key version e = ap (version_of key) (set_bound s now cookie script secure) ∙ e
 op_version s caller now (Get request) key version e = e
 op_version s caller now (Delete other id) key version e = e
+op_version s caller now All key version e = e
+op_version s caller now Clear key version e = e
 op_version s caller now (Listen scope) key version e = e
 op_version s caller now (Changes number) key version e = e
 op_version s caller now (Unlisten number) key version e = e
 op_version s caller now Post key version e = e
 op_version s caller now (Hear actor n) key version e = e
 
+call_version : (fault : Option Awaited) (s : JarState) (caller now : ℕ) (op : Op) (key : List ℕ) (version : ℕ)
+    → version_of key s.bound ≡ Some version → version_of key (call_where fault s caller now op).state.bound ≡ Some version
+call_version (Some what) s caller now op key version e = e
+call_version None s caller now op key version e = op_version s caller now op key version e
+
 event_version : (s : JarState) (v : Event) (key : List ℕ) (version : ℕ) → version_of key s.bound ≡ Some version
     → version_of key (after s v).bound ≡ Some (version + cond (changes_key key (changes_at s v)) 1 0)
 event_version s (CallEvent caller now op) key version e =
-    let step = op_step s caller now op in
-    told_version now step.changes step.state key version (op_version s caller now op key version e)
-event_version s (JarEvent (Whole now)) key version e =
-    told_version now (changes_at s (JarEvent (Whole now))) (record s { whole = true }) key version e
+    let step = call_step s caller now op in
+    told_version now step.changes step.state key version (call_version (faulted s.loads (needs op)) s caller now op key version e)
+event_version s (JarEvent own) key version e =
+    let step = own_step s own in told_version (own_moment own) step.changes step.state key version e
 
 pub versions_count_turns : VersionsCountTurns
 versions_count_turns s [] key version e = e ∙ ap Some (omega arith)

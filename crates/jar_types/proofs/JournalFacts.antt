@@ -1,4 +1,5 @@
--- Legal journals, and journals of which each is refused by one cause. This jar's own rule: docs/DEFINITIONS.md.
+-- Legal journals, and journals of which each is refused by one cause. This jar's own rule:
+-- docs/DEFINITIONS.md.
 use Rattle.std.proofs.Common.{◌≡◌, ℕ, List, [], ◌∷◌, true, false, Some, refl}
 use Rattle.std.specs.Prelude.{codes}
 use Rattle.std.specs.List.Sorted.{IsStrictlySortedBy}

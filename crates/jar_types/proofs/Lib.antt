@@ -7,6 +7,11 @@ mod StandardFacts
 mod CellFacts
 mod CallFacts
 mod JournalFacts
+mod LoadFacts
+mod LoadBarFacts
+mod WaitFacts
+mod CommitFacts
+mod StoredFacts
 pub mod HistoryLemmas
 pub mod ListenerLemmas
 pub mod CountLemmas

@@ -1,4 +1,5 @@
--- Numbers of listeners are no greater than their callers' tallies, so one that is registered is the only one of its number.
+-- Numbers of listeners are no greater than their callers' tallies, so one that is registered is the
+-- only one of its number.
 use Rattle.std.proofs.Common.{◌≡◌, ◌+◌, ◌≤◌, ℕ, List, [], ◌∷◌, ◌++◌, Bool, true, false, cond, refl, sym, ap, ◌∙◌, arith}
 use Rattle.std.specs.Prelude.{filter, fold, map, not, ◌&&◌, ◌==◌, Option, None, Some, option_map}
 use Rattle.std.specs.List.{AllByRecursion}
@@ -6,11 +7,11 @@ use Rattle.jar_types.specs.declared.change.Change.{Change}
 use Rattle.jar_types.specs.declared.cookie.Cookie.{Cookie}
 use Rattle.jar_types.specs.declared.entry.Event.{Event}
 use Rattle.jar_types.specs.declared.entry.Event.TheVariants.{Call as CallEvent, Jar as JarEvent}
-use Rattle.jar_types.specs.declared.entry.Own.TheVariants.{Whole}
+use Rattle.jar_types.specs.declared.jar_core.Awaited.{Awaited}
 use Rattle.jar_types.specs.declared.listener.Listener.{Listener}
 use Rattle.jar_types.specs.declared.listener.Scope.{Scope}
 use Rattle.jar_types.specs.declared.op.Op.{Op}
-use Rattle.jar_types.specs.declared.op.Op.TheVariants.{Bind, Set, Get, Delete, Listen, Changes, Unlisten, Post, Hear}
+use Rattle.jar_types.specs.declared.op.Op.TheVariants.{Bind, Set, Get, Delete, All, Clear, Listen, Changes, Unlisten, Post, Hear}
 use Rattle.jar_types.specs.declared.op.Reply.{Reply}
 use Rattle.jar_types.specs.declared.tally.Tally.{Tally}
 use Rattle.jar_types.specs.Changes.{Changed}
@@ -20,8 +21,9 @@ use Rattle.jar_types.specs.Listeners.{hears, is_listener, listener_at, registere
 use Rattle.jar_types.specs.Purges.{purge}
 use Rattle.jar_types.specs.Sets.{barred, set_where}
 use Rattle.jar_types.specs.States.{JarState, opening}
-use Rattle.jar_types.specs.Steps.{after, op_step}
+use Rattle.jar_types.specs.Steps.{after, call_step, call_where, op_step, own_moment, own_step}
 use Rattle.jar_types.specs.Tallies.{counted, tally_of}
+use Rattle.jar_types.specs.Waits.{faulted, needs}
 use Rattle.jar_types.proofs.FindLemmas.{find_mapped}
 use Rattle.jar_types.proofs.TallyLemmas.{counted_once, counted_least}
 
@@ -76,17 +78,25 @@ op_numbered s caller now (Set c script secure) all =
     let left = purge c.key now s.cookies in set_where_numbered (barred script secure c left.cookies) s now c left all
 op_numbered s caller now (Get request) all = all
 op_numbered s caller now (Delete key id) all = all
+op_numbered s caller now All all = all
+op_numbered s caller now Clear all = all
 op_numbered s caller now (Listen scope) all = listen_numbered caller s.listens scope s.listeners all
 op_numbered s caller now (Changes number) all = taken_numbered s.listens caller number s.listeners all
 op_numbered s caller now (Unlisten number) all = kept_numbered s.listens (λ l. not (is_listener caller number l)) s.listeners all
 op_numbered s caller now Post all = all
 op_numbered s caller now (Hear actor n) all = all
 
+call_numbered : (fault : Option Awaited) (s : JarState) (caller now : ℕ) (op : Op) → Numbered s.listens s.listeners
+    → Numbered (call_where fault s caller now op).state.listens (call_where fault s caller now op).state.listeners
+call_numbered (Some what) s caller now op all = all
+call_numbered None s caller now op all = op_numbered s caller now op all
+
 event_numbered : (s : JarState) (v : Event) → Numbered s.listens s.listeners → Numbered (after s v).listens (after s v).listeners
 event_numbered s (CallEvent caller now op) all =
-    let step = op_step s caller now op in
-    hears_numbered step.state.listens now step.changes step.state.listeners (op_numbered s caller now op all)
-event_numbered s (JarEvent (Whole now)) all = hears_numbered s.listens now _ s.listeners all
+    let step = call_step s caller now op in
+    hears_numbered step.state.listens now step.changes step.state.listeners (call_numbered (faulted s.loads (needs op)) s caller now op all)
+event_numbered s (JarEvent own) all =
+    hears_numbered s.listens (own_moment own) (own_step s own).changes s.listeners all
 
 events_numbered : (s : JarState) (vs : List Event) → Numbered s.listens s.listeners → Numbered (fold after s vs).listens (fold after s vs).listeners
 events_numbered s [] all = all

@@ -1,5 +1,5 @@
--- Lists whose ids rise: a purged key, a cookie set in its place, cookies changed in what is not their id, and so the
--- cookies after every journal.
+-- Lists whose ids rise: a purged key, a cookie set in its place, cookies changed in what is not
+-- their id, and so the cookies after every journal.
 use Rattle.std.proofs.Common.{◌≡◌, ℕ, List, [], ◌∷◌, ◌++◌, Bool, true, false, cond, refl, ap, ◌∙◌}
 use Rattle.std.specs.Prelude.{filter, find, map, length, not, nat_le, ◌+◌, fold, Option, None, Some}
 use Rattle.std.specs.Cmp.{IsTotalOrder}
@@ -14,25 +14,29 @@ use Rattle.std.proofs.lemmas.List.Kept.{IsStrictlySortedBy-filter}
 use Rattle.jar_types.specs.declared.cookie.Cookie.{Cookie}
 use Rattle.jar_types.specs.declared.cookie.CookieId.{CookieId}
 use Rattle.jar_types.specs.declared.op.Op.{Op}
-use Rattle.jar_types.specs.declared.op.Op.TheVariants.{Bind, Set, Get, Delete, Listen, Changes, Unlisten, Post, Hear}
+use Rattle.jar_types.specs.declared.op.Op.TheVariants.{Bind, Set, Get, Delete, All, Clear, Listen, Changes, Unlisten, Post, Hear}
 use Rattle.jar_types.specs.declared.op.Reply.{Reply}
 use Rattle.jar_types.specs.declared.op.TheConstants.{REFRESH_AFTER}
+use Rattle.jar_types.specs.declared.jar_core.Awaited.{Awaited}
 use Rattle.jar_types.specs.declared.limits.TheConstants.{MOST_OF_JAR}
-use Rattle.jar_types.specs.declared.entry.Own.TheVariants.{Whole}
+use Rattle.jar_types.specs.declared.entry.Own.{Own}
+use Rattle.jar_types.specs.declared.entry.Own.TheVariants.{Want, WantAll, Begun, Loaded, Lost, Whole, Taken, Acked, CommitLost}
 use Rattle.jar_types.specs.declared.entry.Event.{Event}
 use Rattle.jar_types.specs.declared.entry.Event.TheVariants.{Call as CallEvent, Jar as JarEvent}
 use Rattle.jar_types.specs.declared.request.Request.{Request}
 use Rattle.jar_types.specs.Changes.{Changed}
-use Rattle.jar_types.specs.Deletes.{has_id, without_id, deleted_where}
+use Rattle.jar_types.specs.Deletes.{without_id, deleted_where}
 use Rattle.jar_types.specs.Evictions.{cookie_looks, evict, thinned, all_purged, all_thinned, swept_where, swept}
 use Rattle.jar_types.specs.Ids.{id_cmp, id_of, cookie_cmp, same_id, RisesById}
 use Rattle.jar_types.specs.Answers.{is_answered}
 use Rattle.jar_types.specs.Gets.{refreshed, served}
 use Rattle.jar_types.specs.Plans.{key_plan, jar_plan}
 use Rattle.jar_types.specs.Purges.{purge, purged, is_expired, has_key}
+use Rattle.jar_types.specs.RowChanges.{has_id}
 use Rattle.jar_types.specs.Sets.{with_cookie, without_cookie, old_of, kept_over, removed_over, put_where, put, barred, tidied, set_where}
 use Rattle.jar_types.specs.States.{JarState, opening}
-use Rattle.jar_types.specs.Steps.{op_step, after}
+use Rattle.jar_types.specs.Steps.{op_step, call_where, loaded_among, own_changed, after}
+use Rattle.jar_types.specs.Waits.{needs, faulted}
 use Rattle.jar_types.specs.Journals.{events, stored_keys, state_of}
 use Rattle.jar_types.specs.JournalLaws.{CookiesRise}
 
@@ -166,7 +170,7 @@ set_where_rises : (bar : Option Reply) (s : JarState) (now : ℕ) (c : Cookie) (
     → RisesById (set_where bar s now c left).state.cookies
 set_where_rises (Some reply) s now c left rises = rises
 set_where_rises None s now c left rises =
-    tidied_rises s.whole now c.key (put now c left.cookies).all.cookies
+    tidied_rises s.loads.whole now c.key (put now c left.cookies).all.cookies
     (put_rises (is_expired now c) (old_of c left.cookies) c left.cookies rises)
 
 -- a cookie that a caller takes away leaves the others in the order of their ids
@@ -187,6 +191,8 @@ op_rises s caller now (Get request) rises =
 op_rises s caller now (Delete key id) rises =
     let left = purge key now s.cookies in
     deleted_rises (find (has_id id) left.cookies) id left.cookies (purged_rises key now s.cookies rises)
+op_rises s caller now All rises = all_purged_rises now s.cookies rises
+op_rises s caller now Clear rises = none_rise
 op_rises s caller now (Bind key) rises = rises
 op_rises s caller now (Listen scope) rises = rises
 op_rises s caller now (Changes number) rises = rises
@@ -194,9 +200,30 @@ op_rises s caller now (Unlisten number) rises = rises
 op_rises s caller now Post rises = rises
 op_rises s caller now (Hear actor n) rises = rises
 
-event_rises : (s : JarState) (v : Event) → RisesById s.cookies → RisesById (after s v).cookies
-event_rises s (CallEvent caller now op) rises = op_rises s caller now op rises
-event_rises s (JarEvent (Whole now)) rises = swept_rises now s.cookies rises
+call_rises : (fault : Option Awaited) (s : JarState) (caller now : ℕ) (op : Op) → RisesById s.cookies
+    → RisesById (call_where fault s caller now op).state.cookies
+call_rises (Some what) s caller now op rises = rises
+call_rises None s caller now op rises = op_rises s caller now op rises
+
+-- loaded cookies come in the order of their ids
+pub loaded_rises : (loaded cookies : List Cookie) → RisesById cookies → RisesById (loaded_among loaded cookies)
+loaded_rises [] cookies rises = rises
+loaded_rises (c ∷ cs) cookies rises = loaded_rises cs (with_cookie c cookies) (with_rises c cookies rises)
+
+own_rises : (own : Own) (cookies : List Cookie) → RisesById cookies → RisesById (own_changed own cookies).cookies
+own_rises (Want key) cookies rises = rises
+own_rises WantAll cookies rises = rises
+own_rises (Begun key) cookies rises = rises
+own_rises (Loaded key loaded) cookies rises = loaded_rises loaded cookies rises
+own_rises (Lost key) cookies rises = rises
+own_rises (Whole now) cookies rises = swept_rises now cookies rises
+own_rises Taken cookies rises = rises
+own_rises (Acked place) cookies rises = rises
+own_rises (CommitLost place) cookies rises = rises
+
+pub event_rises : (s : JarState) (v : Event) → RisesById s.cookies → RisesById (after s v).cookies
+event_rises s (CallEvent caller now op) rises = call_rises (faulted s.loads (needs op)) s caller now op rises
+event_rises s (JarEvent own) rises = own_rises own s.cookies rises
 
 events_rise : (s : JarState) (vs : List Event) → RisesById s.cookies → RisesById (fold after s vs).cookies
 events_rise s [] rises = rises

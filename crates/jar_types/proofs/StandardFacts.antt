@@ -1,4 +1,5 @@
--- The definitions at values from outside: RFC 6265, the 6265bis draft, and the numbers of the limits.
+-- The definitions at values from outside: RFC 6265, the 6265bis draft, and the numbers of the
+-- limits.
 use Rattle.std.proofs.Common.{◌≡◌, ℕ, List, [], ◌∷◌, Bool, true, false, Option, None, Some, refl}
 use Rattle.std.specs.Prelude.{codes, ℤ, pos, negsuc}
 use Rattle.jar_values.specs.declared.attributes.SameSite.{SameSite}
@@ -80,7 +81,8 @@ record Allowed (same_site : SameSite) (now : ℕ) (strict lax unsafe cross : Boo
   unsafe_is : site_allows same_site LaxUnsafe 5 now ≡ unsafe
   cross_is : site_allows same_site Cross 5 now ≡ cross
 
--- the draft, section 5.6.7: Strict in same-site requests alone, Lax in safe navigations too, None always
+-- the draft, section 5.6.7: Strict in same-site requests alone, Lax in safe navigations too, None
+-- always
 strict_cookies : Allowed StrictSite 5 true false false false
 strict_cookies = record { strict_is = refl; lax_is = refl; unsafe_is = refl; cross_is = refl }
 
@@ -90,7 +92,8 @@ lax_cookies = record { strict_is = refl; lax_is = refl; unsafe_is = refl; cross_
 free_cookies : Allowed NoLimit 5 true true true true
 free_cookies = record { strict_is = refl; lax_is = refl; unsafe_is = refl; cross_is = refl }
 
--- the draft, section 5.6.7.2: a new cookie without SameSite goes along with an unsafe navigation too
+-- the draft, section 5.6.7.2: a new cookie without SameSite goes along with an unsafe navigation
+-- too
 new_cookies : Allowed Unspecified 120005 true true true false
 new_cookies = record { strict_is = refl; lax_is = refl; unsafe_is = refl; cross_is = refl }
 
@@ -106,7 +109,8 @@ expiries = (refl, refl, refl)
 accesses : (refreshed 60005 a ≡ record a { access = 60005 }) × (refreshed 60004 a ≡ a)
 accesses = (refl, refl)
 
--- RFC 6265, section 5.3, step 11.3: a cookie in the place of an old one keeps its creation; the old one leaves, it comes
+-- RFC 6265, section 5.3, step 11.3: a cookie in the place of an old one keeps its creation; the old
+-- one leaves, it comes
 replaced : set_step (record (opening []) { cookies = a ∷ [] }) 7 b false false
     ≡ record { state = record (opening []) { cookies = b' ∷ [] }; reply = Replaced; changes = overwritten a ∷ inserted b' ∷ [] }
 replaced = refl
@@ -116,7 +120,8 @@ stored_over_expired : set_step (record (opening []) { cookies = old ∷ [] }) 7 
     ≡ record { state = record (opening []) { cookies = b ∷ [] }; reply = Stored; changes = expired old ∷ inserted b ∷ [] }
 stored_over_expired = refl
 
--- the draft, section 5.7: a new cookie that has expired takes the old one of its id away, and without one does nothing
+-- the draft, section 5.7: a new cookie that has expired takes the old one of its id away, and
+-- without one does nothing
 abbrev gone : Cookie
 gone = record b { expiry = Some 7 }
 
@@ -128,8 +133,8 @@ nothing_there : set_step (record (opening []) { cookies = named (codes "c") [] �
     ≡ record { state = record (opening []) { cookies = named (codes "c") [] ∷ [] }; reply = NothingThere; changes = [] }
 nothing_there = refl
 
--- the draft, section 5.7: an insecure source is barred by a Secure cookie of the same name whose domain is above or below
--- its own, on whose path its own lies; by no other
+-- the draft, section 5.7: an insecure source is barred by a Secure cookie of the same name whose
+-- domain is above or below its own, on whose path its own lies; by no other
 abbrev of_host : List ℕ → List ℕ → Cookie
 of_host host path = record a { host = host; path = path }
 
@@ -149,7 +154,8 @@ shielded : (bars false (of_host (codes "www.h.test") (codes "/login/x")) ≡ Som
     × (bars false (record (of_host (codes "www.h.test") (codes "/login")) { key = codes "test" }) ≡ None)
 shielded = (refl, refl, refl, refl, refl, refl, refl, refl)
 
--- the draft, section 5.7: a script is barred by an HttpOnly cookie of its id; an insecure source comes first
+-- the draft, section 5.7: a script is barred by an HttpOnly cookie of its id; an insecure source
+-- comes first
 abbrev hidden : Cookie
 hidden = record a { http_only = true }
 

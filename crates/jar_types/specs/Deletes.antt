@@ -1,17 +1,12 @@
 -- Delete: a caller takes a cookie away. This jar's own rule: docs/DEFINITIONS.md.
 use Rattle.std.specs.Prelude.{ℕ, List, [], ◌∷◌, filter, find, Bool, true, false, not, Option, None, Some}
-use Rattle.std.specs.Ordering.{is_eq}
 use Rattle.jar_types.specs.declared.cookie.Cookie.{Cookie}
 use Rattle.jar_types.specs.declared.cookie.CookieId.{CookieId}
 use Rattle.jar_types.specs.declared.op.Reply.TheVariants.{Flag}
 use Rattle.jar_types.specs.Changes.{Changed, unchanged, followed, taken_away}
-use Rattle.jar_types.specs.Ids.{id_cmp, id_of}
 use Rattle.jar_types.specs.Purges.{purge}
+use Rattle.jar_types.specs.RowChanges.{has_id}
 use Rattle.jar_types.specs.States.{JarState, Stepped}
-
--- the cookie has the id
-abbrev pub has_id : CookieId → Cookie → Bool
-has_id id c = is_eq (id_cmp id (id_of c))
 
 -- the cookies without the one of an id
 abbrev pub without_id : CookieId → List Cookie → List Cookie

@@ -9,7 +9,7 @@ use Rattle.jar_types.specs.declared.entry.Event.TheVariants.{Call as CallEvent, 
 use Rattle.jar_types.specs.declared.listener.Listener.{Listener}
 use Rattle.jar_types.specs.declared.listener.Scope.{Scope}
 use Rattle.jar_types.specs.declared.op.Op.{Op}
-use Rattle.jar_types.specs.declared.op.Op.TheVariants.{Bind, Set, Get, Delete, Listen, Changes, Unlisten, Post, Hear}
+use Rattle.jar_types.specs.declared.op.Op.TheVariants.{Bind, Set, Get, Delete, All, Clear, Listen, Changes, Unlisten, Post, Hear}
 use Rattle.jar_types.specs.Bound.{changes_key, version_of}
 use Rattle.jar_types.specs.Journals.{state_of}
 use Rattle.jar_types.specs.Listeners.{admitted, listener_at, registered, taken_at}
@@ -35,6 +35,8 @@ op_spares number (Bind key) = true
 op_spares number (Set cookie script secure) = true
 op_spares number (Get request) = true
 op_spares number (Delete key id) = true
+op_spares number All = true
+op_spares number Clear = true
 op_spares number (Listen scope) = true
 op_spares number (Changes other) = not (other == number)
 op_spares number (Unlisten other) = not (other == number)

@@ -1,22 +1,26 @@
 -- Journals: the state that they lead to, and which of them the jar of one thread can have made.
 -- This jar's own rule: docs/DEFINITIONS.md.
 use Rattle.std.specs.Prelude.{ℕ, ◌≡◌, List, [], ◌∷◌, ◌&&◌, ◌==◌, Bool, true, map, fold, nat_lt}
-use Rattle.std.specs.Prelude.{Option, None, Some, is_none}
+use Rattle.std.specs.Prelude.{is_none, option_to_list}
 use Rattle.std.specs.Prelude.{bytes_eq}
+use Rattle.std.specs.List.{list_all, list_any}
 use Rattle.std.specs.List.Sorted.{IsStrictlySortedBy}
+use Rattle.std.specs.Ordering.{is_lt}
 use Rattle.jar_values.specs.Hosts.{undotted}
+use Rattle.jar_types.specs.declared.cookie.Cookie.{Cookie}
 use Rattle.jar_types.specs.declared.op.Op.{Op}
-use Rattle.jar_types.specs.declared.op.Op.TheVariants.{Bind, Set, Get, Delete, Listen, Changes, Unlisten, Post, Hear}
+use Rattle.jar_types.specs.declared.op.Op.TheVariants.{Bind, Set, Get, Delete, All, Clear, Listen, Changes, Unlisten, Post, Hear}
 use Rattle.jar_types.specs.declared.entry.Own.{Own}
-use Rattle.jar_types.specs.declared.entry.Own.TheVariants.{Whole}
+use Rattle.jar_types.specs.declared.entry.Own.TheVariants.{Want, WantAll, Begun, Loaded, Lost, Whole, Taken, Acked, CommitLost}
 use Rattle.jar_types.specs.declared.entry.Event.{Event}
 use Rattle.jar_types.specs.declared.entry.Event.TheVariants.{Call as CallEvent, Jar as JarEvent}
 use Rattle.jar_types.specs.declared.entry.Entry.{Entry}
-use Rattle.jar_types.specs.Ids.{text_cmp}
+use Rattle.jar_types.specs.Ids.{text_cmp, cookie_cmp}
 use Rattle.jar_types.specs.Orders.{ascending}
-use Rattle.jar_types.specs.Posts.{op_wanting}
-use Rattle.jar_types.specs.States.{JarState, opening, is_loaded}
+use Rattle.jar_types.specs.Rows.{is_sound_row, row_of}
+use Rattle.jar_types.specs.States.{JarState, opening}
 use Rattle.jar_types.specs.Steps.{after, entry_of, event_of, own_may_stand}
+use Rattle.jar_types.specs.Waits.{op_waits}
 
 -- what a jar was opened for: the hosts that have stored cookies, how many callers, how many entries
 -- they may have in all, the moment of its start, and the key of each host
@@ -44,33 +48,14 @@ abbrev pub run : JarState → List Event → List Entry
 run s [] = []
 run s (v ∷ vs) = entry_of s v ∷ run (after s v) vs
 
--- the jar becomes whole at its start
-abbrev pub is_at_start : Rules → Own → Bool
-is_at_start r (Whole now) = now == r.start
-
--- the key that has to be loaded for an op, where it is about one
-abbrev pub needed_key : Op → Option (List ℕ)
-needed_key (Bind key) = None
-needed_key (Set cookie script secure) = Some cookie.key
-needed_key (Get request) = Some request.key
-needed_key (Delete key id) = Some key
-needed_key (Listen scope) = None
-needed_key (Changes number) = None
-needed_key (Unlisten number) = None
-needed_key Post = None
-needed_key (Hear actor n) = None
-
--- the key is loaded, where there is one
-abbrev pub is_there : JarState → Option (List ℕ) → Bool
-is_there s None = true
-is_there s (Some key) = is_loaded s key
-
 -- whether an op is well keyed: a cookie to be stored, and one to be taken away, has the key of its host
 -- or domain
 abbrev pub is_well_keyed : Rules → Op → Bool
 is_well_keyed r (Bind key) = true
 is_well_keyed r (Set cookie script secure) = bytes_eq cookie.key (key_at r cookie.host)
 is_well_keyed r (Get request) = true
+is_well_keyed r All = true
+is_well_keyed r Clear = true
 is_well_keyed r (Delete key id) = bytes_eq key (key_at r id.host)
 is_well_keyed r (Listen scope) = true
 is_well_keyed r (Changes number) = true
@@ -78,16 +63,41 @@ is_well_keyed r (Unlisten number) = true
 is_well_keyed r Post = true
 is_well_keyed r (Hear actor n) = true
 
--- whether an event may come: its caller is one, the limit isn't reached, the op is well keyed and its
--- key loaded, and it wants no more posts than were made; or the jar may do this itself
+-- the cookie stands for a sound row of a stored host, and has this key
+abbrev pub is_stored : Rules → List ℕ → Cookie → Bool
+is_stored r key c =
+    list_any is_sound_row (option_to_list (row_of c))
+    && (bytes_eq c.key key
+    && (bytes_eq key (key_at r c.host)
+    && list_any (bytes_eq c.host) r.hosts))
+
+-- the ids rise strictly
+abbrev pub ids_rise : List Cookie → Bool
+ids_rise [] = true
+ids_rise (c ∷ cs) = list_all (λ d. is_lt (cookie_cmp c d)) cs && ids_rise cs
+
+-- whether what the jar does itself is of what it was opened for: a load lists stored cookies of its key, in the order of
+-- their ids, and the jar becomes whole at its start
+abbrev pub own_fits : Rules → Own → Bool
+own_fits r (Want key) = true
+own_fits r WantAll = true
+own_fits r (Begun key) = true
+own_fits r (Loaded key cookies) = list_all (is_stored r key) cookies && ids_rise cookies
+own_fits r (Lost key) = true
+own_fits r (Whole now) = now == r.start
+own_fits r Taken = true
+own_fits r (Acked place) = true
+own_fits r (CommitLost place) = true
+
+-- whether an event may come: its caller is one, the limit isn't reached, the op is well keyed, and waits for nothing; or
+-- the jar may do this itself
 abbrev pub stands : Rules → JarState → Event → Bool
 stands r s (CallEvent caller now op) =
     nat_lt caller r.callers
     && (nat_lt s.calls r.limit
     && (is_well_keyed r op
-    && (is_there s (needed_key op)
-    && is_none (op_wanting s op))))
-stands r s (JarEvent own) = own_may_stand s own && is_at_start r own
+    && is_none (op_waits s op)))
+stands r s (JarEvent own) = own_may_stand s own && own_fits r own
 
 -- whether each of these events may come where it comes
 abbrev pub all_stand : Rules → JarState → List Event → Bool

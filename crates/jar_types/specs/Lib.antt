@@ -9,6 +9,9 @@ pub mod Purges
 pub mod Plans
 pub mod Evictions
 pub mod Rows
+pub mod RowChanges
+pub mod Loads
+pub mod Batches
 pub mod Entries
 pub mod States
 pub mod Sets
@@ -16,8 +19,11 @@ pub mod Gets
 pub mod Deletes
 pub mod Listeners
 pub mod Posts
+pub mod Waits
+pub mod Wholes
 pub mod Steps
 pub mod Journals
+pub mod Stored
 pub mod JournalLaws
 pub mod HistoryLaws
 pub mod Counts

@@ -1,6 +1,6 @@
 -- Lists put in an order.
-use Rattle.std.specs.Prelude.{List, [], ◌∷◌, if◌then◌else◌}
-use Rattle.std.specs.Ordering.{is_lt, is_eq}
+use Rattle.std.specs.Prelude.{List, [], ◌∷◌, ◌++◌, filter, if◌then◌else◌}
+use Rattle.std.specs.Ordering.{is_lt, is_gt, is_eq}
 use Rattle.std.specs.declared.cmp.Ordering.{Ordering}
 
 -- the list with x before the first element that it comes before
@@ -24,3 +24,7 @@ placed_once cmp x (y ∷ ys) =
 abbrev pub ascending : {X : Type 0} → (X → X → Ordering) → List X → List X
 ascending cmp [] = []
 ascending cmp (x ∷ xs) = placed_once cmp x (ascending cmp xs)
+
+-- the list with x in the place of its equals: after what is less, before what is greater
+abbrev pub put_by : {X : Type 0} → (X → X → Ordering) → X → List X → List X
+put_by cmp x xs = filter (λ y. is_lt (cmp y x)) xs ++ (x ∷ filter (λ y. is_gt (cmp y x)) xs)

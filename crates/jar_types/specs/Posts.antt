@@ -1,11 +1,7 @@
 -- Posts, by which callers tell each other how far they came. This jar's own rule: docs/DEFINITIONS.md.
-use Rattle.std.specs.Prelude.{◌≡◌, ℕ, nat_lt, Option, None, Some, if◌then◌else◌}
-use Rattle.jar_types.specs.declared.entry.Event.{Event}
-use Rattle.jar_types.specs.declared.entry.Event.TheVariants.{Call as CallEvent, Jar as JarEvent}
-use Rattle.jar_types.specs.declared.jar_core.CoreRefusal.{CoreRefusal}
-use Rattle.jar_types.specs.declared.jar_core.CoreRefusal.TheVariants.{NotYet, NoMemory}
+use Rattle.std.specs.Prelude.{ℕ, nat_lt, Option, None, Some, if◌then◌else◌}
 use Rattle.jar_types.specs.declared.op.Op.{Op}
-use Rattle.jar_types.specs.declared.op.Op.TheVariants.{Bind, Set, Get, Delete, Listen, Changes, Unlisten, Post, Hear}
+use Rattle.jar_types.specs.declared.op.Op.TheVariants.{Bind, Set, Get, Delete, All, Clear, Listen, Changes, Unlisten, Post, Hear}
 use Rattle.jar_types.specs.declared.op.Reply.TheVariants.{Posted, Heard}
 use Rattle.jar_types.specs.States.{JarState, Stepped, replied}
 use Rattle.jar_types.specs.Tallies.{tally_of, counted}
@@ -30,18 +26,10 @@ op_wanting s (Bind key) = None
 op_wanting s (Set cookie script secure) = None
 op_wanting s (Get request) = None
 op_wanting s (Delete key id) = None
+op_wanting s All = None
+op_wanting s Clear = None
 op_wanting s (Listen scope) = None
 op_wanting s (Changes number) = None
 op_wanting s (Unlisten number) = None
 op_wanting s Post = None
 op_wanting s (Hear actor n) = fewer_posts s actor n
-
--- how many posts were made, where an event is a Hear that wants more
-abbrev pub posts_wanting : JarState → Event → Option ℕ
-posts_wanting s (CallEvent caller now op) = op_wanting s op
-posts_wanting s (JarEvent own) = None
-
--- why an event has no entry: it wants more posts than were made; else memory was wanting
-abbrev pub Refuses : JarState → Event → CoreRefusal → Type 0
-Refuses s v (NotYet found) = posts_wanting s v ≡ Some found
-Refuses s v NoMemory = posts_wanting s v ≡ None

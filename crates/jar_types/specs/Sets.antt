@@ -2,7 +2,6 @@
 -- 6265bis draft, section 5.7, steps 12 and 23 to 25; that the key is purged first is this jar's own rule.
 use Rattle.std.specs.Prelude.{ℕ, List, [], ◌∷◌, ◌++◌, Option, None, Some, filter, find, Bool, true, false, not, ◌&&◌, ◌||◌, bytes_eq, if◌then◌else◌}
 use Rattle.std.specs.List.{list_any}
-use Rattle.std.specs.Ordering.{is_lt, is_gt}
 use Rattle.jar_values.specs.Hosts.{undotted, domain_matches}
 use Rattle.jar_values.specs.Paths.{path_matches}
 use Rattle.jar_types.specs.declared.cookie.Cookie.{Cookie}
@@ -12,6 +11,7 @@ use Rattle.jar_types.specs.declared.op.Reply.TheVariants.{Stored, Replaced, Remo
 use Rattle.jar_types.specs.Ids.{cookie_cmp, same_id}
 use Rattle.jar_types.specs.Changes.{Changed, unchanged, followed, inserted, overwritten, overwritten_by_expired}
 use Rattle.jar_types.specs.Evictions.{thinned, swept}
+use Rattle.jar_types.specs.Orders.{put_by}
 use Rattle.jar_types.specs.Purges.{purge, is_expired, has_key}
 use Rattle.jar_types.specs.States.{JarState, Stepped}
 
@@ -53,8 +53,7 @@ barred script secure c cookies =
 -- the cookies with this one in the place of its id: after those of lesser ids, before those of
 -- greater ones
 abbrev pub with_cookie : Cookie → List Cookie → List Cookie
-with_cookie c cookies =
-    filter (λ d. is_lt (cookie_cmp d c)) cookies ++ (c ∷ filter (λ d. is_gt (cookie_cmp d c)) cookies)
+with_cookie c cookies = put_by cookie_cmp c cookies
 
 -- the cookie as it is stored: in the place of an old one it keeps that one's creation
 abbrev pub kept_over : Option Cookie → Cookie → Cookie
@@ -120,7 +119,7 @@ set_where (Some reply) s now c left =
     record { state = record s { cookies = left.cookies }; reply = reply; changes = left.changes }
 set_where None s now c left =
     let new = put now c left.cookies in
-    let all = followed (followed left new.all) (tidied s.whole now c.key new.all.cookies) in
+    let all = followed (followed left new.all) (tidied s.loads.whole now c.key new.all.cookies) in
     record { state = record s { cookies = all.cookies }; reply = new.reply; changes = all.changes }
 
 -- the key is purged; unless something bars it the cookie is put among the others, and what is too much leaves

@@ -1,25 +1,26 @@
 -- The jar of one thread: its state, and what an event makes of it. This jar's own rule:
 -- docs/DEFINITIONS.md.
-use Rattle.std.specs.Prelude.{ℕ, List, [], length, Bool, false, not, ◌==◌, bytes_eq}
-use Rattle.std.specs.List.{list_any}
+use Rattle.std.specs.Prelude.{ℕ, List, []}
 use Rattle.jar_types.specs.declared.bound_key.BoundKey.{BoundKey}
 use Rattle.jar_types.specs.declared.change.Change.{Change}
 use Rattle.jar_types.specs.declared.cookie.Cookie.{Cookie}
 use Rattle.jar_types.specs.declared.listener.Listener.{Listener}
 use Rattle.jar_types.specs.declared.op.Reply.{Reply}
 use Rattle.jar_types.specs.declared.tally.Tally.{Tally}
+use Rattle.jar_types.specs.Batches.{Batches, no_batch}
+use Rattle.jar_types.specs.Loads.{Loads, not_whole}
 
--- the cookies in the order of their ids, the keys whose stored cookies aren't loaded, and whether the
--- jar is whole; the bound keys in the order of their cells; how many posts and how many Listens each
--- caller made, and the listeners; how many entries callers have, and all have
+-- the cookies in the order of their ids, and the loading of stored ones; the bound keys in the order of their cells; how
+-- many posts and how many Listens each caller made, and the listeners; the batches of changed rows; how many entries
+-- callers have, and all have
 pub record JarState : Type 0 where
   pub cookies : List Cookie
-  pub unloaded : List (List ℕ)
-  pub whole : Bool
+  pub loads : Loads
   pub bound : List BoundKey
   pub posts : List Tally
   pub listens : List Tally
   pub listeners : List Listener
+  pub batches : Batches
   pub calls : ℕ
   pub entries : ℕ
 
@@ -27,23 +28,15 @@ pub record JarState : Type 0 where
 abbrev pub opening : List (List ℕ) → JarState
 opening keys = record {
   cookies = [];
-  unloaded = keys;
-  whole = false;
+  loads = not_whole keys;
   bound = [];
   posts = [];
   listens = [];
   listeners = [];
+  batches = no_batch;
   calls = 0;
   entries = 0;
 }
-
--- the stored cookies of the key are loaded
-abbrev pub is_loaded : JarState → List ℕ → Bool
-is_loaded s key = not (list_any (bytes_eq key) s.unloaded)
-
--- no key is left to load
-abbrev pub all_loaded : JarState → Bool
-all_loaded s = length s.unloaded == 0
 
 -- what an op leads to: the state, the reply, and the changes of the cookies
 pub record Stepped : Type 0 where

@@ -2,16 +2,54 @@
 
 ghost use Rattle.std.specs.Prelude.{◌≡◌, IfOk};
 
+use crate::cookie::Cookies;
 use crate::op::{Op, Reply};
-use jar_values::{Moment, NoMemory};
+use jar_values::{Moment, NoMemory, Text};
 use std::alloc::Global;
 
 /// What the jar does of its own accord.
 ///
-/// `Whole` says that every key is loaded, at a moment.
-#[derive(Clone, Copy, Drop)]
+/// - `Want` says that callers wait for a key, `WantAll` that they wait for the whole jar.
+/// - `Begun` says that the load of a key has begun, `Loaded` that it has ended with these cookies, in the order of
+///   their ids, and `Lost` that it has failed.
+/// - `Whole` says that every key is loaded, at a moment: the jar is swept.
+/// - `Taken` takes the changes of stored rows as a batch that is to be committed. `Acked` says that the batch taken at
+///   a place of the journal was committed, and `CommitLost` that it was not.
+///
+/// This jar's own rule: docs/DEFINITIONS.md.
+#[derive(Drop)]
 pub enum Own {
+    Want(Text),
+    WantAll,
+    Begun(Text),
+    Loaded { key: Text, cookies: Cookies },
+    Lost(Text),
     Whole(Moment),
+    Taken,
+    Acked(u64),
+    CommitLost(u64),
+}
+
+impl Own {
+    /// The same again.
+    pub fn copy(&self, alloc: Global) -> Result<Own, NoMemory>
+        ensures { IfOk result (λ own. own ≡ self.now) }
+    {
+        match self {
+            Own::Want(key) => Ok(Own::Want(key.copy(alloc)?)),
+            Own::WantAll => Ok(Own::WantAll),
+            Own::Begun(key) => Ok(Own::Begun(key.copy(alloc)?)),
+            Own::Loaded { key, cookies } => Ok(Own::Loaded {
+                key: key.copy(alloc)?,
+                cookies: cookies.copy(alloc)?,
+            }),
+            Own::Lost(key) => Ok(Own::Lost(key.copy(alloc)?)),
+            Own::Whole(now) => Ok(Own::Whole(*now)),
+            Own::Taken => Ok(Own::Taken),
+            Own::Acked(place) => Ok(Own::Acked(*place)),
+            Own::CommitLost(place) => Ok(Own::CommitLost(*place)),
+        }
+    }
 }
 
 /// What is to happen: the op of a caller at a moment, or what the jar does itself.
@@ -44,7 +82,7 @@ impl Event {
                 now: *now,
                 op: op.copy(alloc)?,
             }),
-            Event::Jar(own) => Ok(Event::Jar(*own)),
+            Event::Jar(own) => Ok(Event::Jar(own.copy(alloc)?)),
         }
     }
 }
@@ -66,7 +104,7 @@ impl Entry {
                 op: op.copy(alloc)?,
                 reply: reply.copy(alloc)?,
             }),
-            Entry::Jar(own) => Ok(Entry::Jar(*own)),
+            Entry::Jar(own) => Ok(Entry::Jar(own.copy(alloc)?)),
         }
     }
 }

@@ -20,7 +20,7 @@ pub use bound_key::{BoundKey, BoundKeys, MOST_CELLS};
 pub use change::{Cause, Change, Changes};
 pub use cookie::{Cookie, CookieId, Cookies};
 pub use entry::{Entry, Event, Own};
-pub use jar_core::{CoreRefusal, JarCore, Prepared};
+pub use jar_core::{Awaited, CoreRefusal, JarCore, LoadWish, Prepared};
 pub use jar_values::{
     Copied, Listed, MAX_MOMENT, MAX_PAIR_BYTES, Moment, NoMemory, Priority, SameSite, TEXT_END,
     Text, Texts, has_host_prefix, has_secure_prefix, is_blank, is_control, is_reserved, undotted,

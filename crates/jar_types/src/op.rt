@@ -20,6 +20,7 @@ pub const REFRESH_AFTER: u64 = 60_000;
 /// - `Set` stores a cookie: `script` says whether a script does and not HTTP, `secure` whether the connection is.
 /// - `Get` asks for the cookies of a request.
 /// - `Delete` takes the cookie of an id away, of this key.
+/// - `All` lists the cookies of the whole jar, and `Clear` takes them away.
 /// - `Listen` registers a listener. `Changes` takes its changes and `Unlisten` ends it, each by its number.
 /// - `Post` tells the other callers that this one came so far. `Hear` waits for the n-th Post of an actor.
 ///
@@ -37,6 +38,8 @@ pub enum Op {
         key: Text,
         id: CookieId,
     },
+    All,
+    Clear,
     Listen(Scope),
     Changes(u64),
     Unlisten(u64),
@@ -53,11 +56,13 @@ pub enum Op {
 /// - A Set is answered `Stored` where its id is new and `Replaced` where it was there; for a cookie that has expired
 ///   `Removed` where its id was there, and else `NothingThere`; and `OverwriteSecure` or `OverwriteHttpOnly` where a
 ///   cookie that it may not touch bars it.
-/// - `Cookies` answers a Get of HTTP. `Script` answers one of a script: the text of the cookies, the version of the
+/// - `Cookies` answers a Get of HTTP, and an All. `Script` answers one of a script: the text of the cookies, the version of the
 ///   key's cell where it is bound, and until when the text may be kept, in milliseconds since 1970.
 /// - `Flag` answers a Delete and an Unlisten: whether what was named was there.
+/// - `Count` answers a Clear, by how many cookies it took away that hadn't expired.
 /// - `Listener` answers a Listen, by the number of the listener, `Changes` or `NoListener` a Changes.
 /// - `Posted` answers a Post, by how many its caller has made, and `Heard` a Hear.
+/// - `StoreFault` answers what needs stored cookies whose load was lost.
 ///
 /// This jar's own rule: docs/DEFINITIONS.md.
 #[derive(Drop)]
@@ -76,11 +81,13 @@ pub enum Reply {
         until: u64,
     },
     Flag(bool),
+    Count(u64),
     Listener(u64),
     Changes(Changes),
     NoListener,
     Posted(u64),
     Heard,
+    StoreFault,
 }
 
 impl Op {
@@ -104,6 +111,8 @@ impl Op {
                 key: key.copy(alloc)?,
                 id: id.copy(alloc)?,
             }),
+            Op::All => Ok(Op::All),
+            Op::Clear => Ok(Op::Clear),
             Op::Listen(scope) => Ok(Op::Listen(scope.copy(alloc)?)),
             Op::Changes(number) => Ok(Op::Changes(*number)),
             Op::Unlisten(number) => Ok(Op::Unlisten(*number)),
@@ -140,11 +149,13 @@ impl Reply {
                 until: *until,
             }),
             Reply::Flag(flag) => Ok(Reply::Flag(*flag)),
+            Reply::Count(count) => Ok(Reply::Count(*count)),
             Reply::Listener(number) => Ok(Reply::Listener(*number)),
             Reply::Changes(changes) => Ok(Reply::Changes(changes.copy(alloc)?)),
             Reply::NoListener => Ok(Reply::NoListener),
             Reply::Posted(count) => Ok(Reply::Posted(*count)),
             Reply::Heard => Ok(Reply::Heard),
+            Reply::StoreFault => Ok(Reply::StoreFault),
         }
     }
 }

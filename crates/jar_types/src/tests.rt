@@ -5,8 +5,10 @@
 
 mod journals;
 mod ops;
+mod owns;
 mod replies;
 mod rows;
+mod waits;
 
 use crate::{
     BoundKey, Cause, Change, Changes, Context, Cookie, CookieId, Listener, Moment, Priority,

@@ -3,6 +3,7 @@
 ghost use Rattle.std.specs.Prelude.{◌≡◌, ◌++◌, ◌∷◌, [], IfOk, find, option_copied};
 ghost use Rattle.jar_types.specs.Deletes as deletes;
 ghost use Rattle.jar_types.specs.Ids.{RisesById};
+ghost use Rattle.jar_types.specs.RowChanges.{has_id};
 ghost use Rattle.jar_types.specs.Sets as sets;
 
 use crate::order::{cookie_cmp, id_order};
@@ -85,7 +86,7 @@ impl ById {
 
     /// The one with an id; none where there is none.
     pub fn with_id(&self, id: &CookieId) -> Option<&Cookie>
-        ensures { option_copied result ≡ find (deletes.has_id id.now) self.now }
+        ensures { option_copied result ≡ find (has_id id.now) self.now }
     {
         self.cookies
             .as_slice()

@@ -1,11 +1,16 @@
 //! What a plain jar holds.
 
-ghost use Rattle.std.specs.Prelude.{◌≡◌, ◌<◌, ◌-◌, ◌^◌, true, IfOk};
+ghost use Rattle.std.specs.Prelude.{◌≡◌, ◌<◌, ◌-◌, ◌^◌, false, IfOk, OnOk};
+ghost use Rattle.std.specs.List.Sorted.{IsStrictlySortedBy};
+ghost use Rattle.jar_types.specs.RowChanges.{change_cmp};
 ghost use Rattle.jar_types.specs.States.{opening};
 ghost use Rattle.jar_types.specs.Steps as steps;
+ghost use Rattle.jar_types.specs.Waits.{takes_memory};
 
+use crate::batches::Batches;
 use crate::by_id::ById;
-use jar_types::{BoundKeys, Listeners, NoMemory, Tallies, Texts};
+use crate::loads::Loads;
+use jar_types::{BoundKeys, Entry, Listeners, NoMemory, RowChange, Tallies, Texts};
 use std::alloc::Global;
 use std::marker::Model;
 
@@ -13,12 +18,12 @@ use std::marker::Model;
 #[derive(Drop)]
 pub struct Content {
     pub cookies: ById,
-    pub unloaded: Texts,
-    pub whole: bool,
+    pub loads: Loads,
     pub bound: BoundKeys,
     pub posts: Tallies,
     pub listens: Tallies,
     pub listeners: Listeners,
+    pub batches: Batches,
     pub calls: u64,
     pub entries: u64,
 }
@@ -30,12 +35,12 @@ impl Model for Content {
 
     ghost view = { λ c. record {
       cookies = c.cookies;
-      unloaded = c.unloaded;
-      whole = c.whole;
+      loads = c.loads;
       bound = c.bound;
       posts = c.posts;
       listens = c.listens;
       listeners = c.listeners;
+      batches = c.batches;
       calls = c.calls;
       entries = c.entries;
     } };
@@ -48,12 +53,12 @@ impl Content {
     {
         Content {
             cookies: ById::new(alloc),
-            unloaded: keys,
-            whole: false,
+            loads: Loads::new(alloc, keys),
             bound: BoundKeys::new(alloc),
             posts: Tallies::new(alloc),
             listens: Tallies::new(alloc),
             listeners: Listeners::new(alloc),
+            batches: Batches::new(alloc),
             calls: 0,
             entries: 0,
         }
@@ -73,12 +78,12 @@ impl Content {
     {
         Ok(Content {
             cookies,
-            unloaded: self.unloaded.copy(alloc)?,
-            whole: self.whole,
+            loads: self.loads.copy(alloc)?,
             bound: self.bound.copy(alloc)?,
             posts: self.posts.copy(alloc)?,
             listens: self.listens.copy(alloc)?,
             listeners: self.listeners.copy(alloc)?,
+            batches: self.batches.copy(alloc)?,
             calls: self.calls,
             entries: self.entries,
         })
@@ -102,10 +107,23 @@ impl Content {
         self.entries += 1;
     }
 
-    /// Notes that each key is loaded.
-    pub fn become_whole(&mut self)
-        ensures { self.new ≡ record self.old { whole = true } }
+    /// Notes that these rows are to be committed.
+    pub fn touch(&mut self, alloc: Global, changes: &[RowChange]) -> Result<(), NoMemory>
+        requires { IsStrictlySortedBy change_cmp changes.now }
+        ensures { OnOk result (self.new ≡ steps.batched changes.now self.old) }
     {
-        self.whole = true;
+        self.batches.touch(alloc, changes)
+    }
+
+    /// Takes the step of an entry that is of the batches alone. It takes no memory.
+    pub fn take_step(&mut self, entry: &Entry)
+        requires batches { takes_memory (steps.event_of entry.now) ≡ false }
+        requires room { self.old.entries < 2 ^ 64 - 1 }
+        ensures { self.new ≡ steps.after self.old (steps.event_of entry.now) }
+    {
+        if let Entry::Jar(own) = entry {
+            self.batches.step(self.entries + 1, own);
+            self.count_own();
+        }
     }
 }

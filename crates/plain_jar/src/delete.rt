@@ -3,6 +3,7 @@
 ghost use Rattle.std.specs.Prelude.{◌≡◌, ◌∷◌, [], IfOk, find, option_copied};
 ghost use Rattle.jar_types.specs.Changes as changes;
 ghost use Rattle.jar_types.specs.Deletes as deletes;
+ghost use Rattle.jar_types.specs.RowChanges.{has_id};
 
 use crate::by_id::ById;
 use crate::changed::Changed;
@@ -37,7 +38,7 @@ pub fn delete(
 /// The cookies without the one of an id, and how it left.
 fn deleted(alloc: Global, cookies: ById, id: &CookieId) -> Result<Changed, NoMemory>
     ensures { IfOk result (λ left. left
-        ≡ deletes.deleted_where (find (deletes.has_id id.now) cookies) id.now cookies) }
+        ≡ deletes.deleted_where (find (has_id id.now) cookies) id.now cookies) }
 {
     let changes = match cookies.with_id(id) {
         Some(old) => deletion_of(alloc, old)?,

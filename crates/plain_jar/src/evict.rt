@@ -41,6 +41,19 @@ pub fn swept(alloc: Global, now: Moment, cookies: ById) -> Result<Changed, NoMem
     evicted(alloc, cookies, gone)?.behind(changes)
 }
 
+/// The cookies without all that have expired, and how these left.
+///
+/// This jar's own rule: docs/DEFINITIONS.md.
+pub fn all_purged(alloc: Global, cookies: ById, now: Moment) -> Result<Changed, NoMemory>
+    ensures { IfOk result (λ left. left ≡ evictions.all_purged now cookies) }
+{
+    let changes = all_expiries(alloc, cookies.as_slice(), now)?;
+    Ok(Changed {
+        cookies: without_expired(cookies, now),
+        changes,
+    })
+}
+
 /// The cookies without these.
 fn evicted(alloc: Global, cookies: ById, gone: Vec<Cookie>) -> Result<Changed, NoMemory>
     ensures { IfOk result (λ left. left ≡ evictions.evict gone.items cookies) }
@@ -92,17 +105,6 @@ fn has_same_id(cookies: &[Cookie], cookie: &Cookie) -> bool
     cookies
         .iter()
         .any(|other| cookie_cmp(cookie, other).is_eq())
-}
-
-/// The cookies without all that have expired, and how these left.
-fn all_purged(alloc: Global, cookies: ById, now: Moment) -> Result<Changed, NoMemory>
-    ensures { IfOk result (λ left. left ≡ evictions.all_purged now cookies) }
-{
-    let changes = all_expiries(alloc, cookies.as_slice(), now)?;
-    Ok(Changed {
-        cookies: without_expired(cookies, now),
-        changes,
-    })
 }
 
 /// The changes by which all leave that have expired.

@@ -2,16 +2,19 @@
 
 use crate::bind::cell_of;
 use crate::content::Content;
-use crate::post::posts_wanting;
+use crate::own::of_batches;
 use crate::step::{Next, step};
-use jar_types::{CoreRefusal, Entry, Event, JarCore, NoMemory, Own, Prepared, Texts};
+use jar_types::{
+    Awaited, CoreRefusal, Entry, Event, JarCore, LoadWish, NoMemory, Own, Prepared, RowChanges,
+    Texts,
+};
 use std::alloc::Global;
 use std::marker::Model;
 
 /// A jar whose content is a plain list of cookies, seen as its state and the next one.
 ///
 /// An entry that was made ready has the whole content after it beside it, so settling takes no
-/// memory.
+/// memory. One of the batches alone has none, since its step is taken in place.
 #[derive(Drop)]
 pub struct PlainJar {
     content: Content,
@@ -38,7 +41,7 @@ impl JarCore for PlainJar {
 
     ghost state = { λ j. j.state };
 
-    ghost ready = { λ j p. IsReady j p.entry };
+    ghost ready = { λ j p. IsReady j p };
 
     fn fresh(alloc: Global, keys: Texts) -> Result<PlainJar, NoMemory> {
         Ok(PlainJar {
@@ -49,16 +52,17 @@ impl JarCore for PlainJar {
 
     #[tactic(auto, using(jar_types::proofs::JournalLemmas::event_back, jar_types::proofs::CountLemmas::entries_count))]
     fn prepare(&mut self, alloc: Global, event: &Event) -> Result<Prepared, CoreRefusal> {
-        if let Some(found) = posts_wanting(&self.content, event) {
-            return Err(CoreRefusal::NotYet { found });
+        if let Some(own) = of_batches(event) {
+            self.next = None;
+            return Ok(Prepared {
+                entry: Entry::Jar(own),
+                moved: Texts::new(alloc),
+                rows: RowChanges::new(alloc),
+            });
         }
-        let Next {
-            content,
-            entry,
-            moved,
-        } = step(alloc, &self.content, event)?;
+        let Next { content, prepared } = step(alloc, &self.content, event)?;
         self.next = Some(content);
-        Ok(Prepared { entry, moved })
+        Ok(prepared)
     }
 
     fn cell_of(&self, key: &str) -> Option<u32> {
@@ -66,15 +70,24 @@ impl JarCore for PlainJar {
     }
 
     fn stands(&self, own: &Own) -> bool {
-        match own {
-            Own::Whole(_) => !self.content.whole && self.content.unloaded.len() == 0,
-        }
+        self.content.loads.may(own) && self.content.batches.may(own)
     }
 
-    fn settle(&mut self, prepared: Prepared) -> Entry {
-        if let Some(next) = self.next.take() {
-            self.content = next;
+    fn next_load(&self) -> LoadWish {
+        self.content.loads.wish()
+    }
+
+    fn is_wanted(&self, awaited: &Awaited) -> bool {
+        self.content.loads.is_awaited(awaited)
+    }
+
+    #[tactic(auto, using(jar_types::proofs::CountLemmas::entries_count))]
+    fn settle(&mut self, prepared: Prepared) -> (Entry, RowChanges) {
+        let Prepared { entry, rows, .. } = prepared;
+        match self.next.take() {
+            Some(next) => self.content = next,
+            None => self.content.take_step(&entry),
         }
-        prepared.entry
+        (entry, rows)
     }
 }

@@ -7,7 +7,7 @@ ghost use Rattle.jar_types.specs.Posts as posts;
 use crate::content::Content;
 use crate::stepped::Stepped;
 use crate::tally::{counted, tally_of};
-use jar_types::{Event, NoMemory, Op, Reply};
+use jar_types::{NoMemory, Op, Reply};
 use std::alloc::Global;
 
 /// The caller made one more post.
@@ -40,20 +40,10 @@ pub fn hear(alloc: Global, content: &Content) -> Result<Stepped, NoMemory>
     })
 }
 
-/// How many posts were made, where an event is a Hear that wants more.
+/// How many posts were made, where an op is a Hear that wants more.
 ///
 /// This jar's own rule: docs/DEFINITIONS.md.
-pub fn posts_wanting(content: &Content, event: &Event) -> Option<u64>
-    ensures { result ≡ posts.posts_wanting content.now event.now }
-{
-    match event {
-        Event::Call { op, .. } => op_wanting(content, op),
-        Event::Jar(_) => None,
-    }
-}
-
-/// How many posts were made, where an op is a Hear that wants more.
-fn op_wanting(content: &Content, op: &Op) -> Option<u64>
+pub fn op_wanting(content: &Content, op: &Op) -> Option<u64>
     ensures { result ≡ posts.op_wanting content.now op.now }
 {
     match op {
@@ -62,6 +52,8 @@ fn op_wanting(content: &Content, op: &Op) -> Option<u64>
         | Op::Set { .. }
         | Op::Get(_)
         | Op::Delete { .. }
+        | Op::All
+        | Op::Clear
         | Op::Listen(_)
         | Op::Changes(_)
         | Op::Unlisten(_)

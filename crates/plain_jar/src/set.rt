@@ -52,7 +52,7 @@ fn set_among(
     let Changed { cookies, changes } = left;
     let Outcome { all, reply } = put(alloc, cookies, now, cookie)?;
     let Changed { cookies, changes } = all.behind(changes)?;
-    let tidy = tidied(alloc, content.whole, now, &cookie.key, cookies)?;
+    let tidy = tidied(alloc, content.loads.is_whole(), now, &cookie.key, cookies)?;
     let Changed { cookies, changes } = tidy.behind(changes)?;
     Ok(Stepped {
         content: content.with_cookies(alloc, cookies)?,

@@ -25,23 +25,23 @@ pub fn told(
 {
     let Content {
         cookies,
-        unloaded,
-        whole,
+        loads,
         bound,
         posts,
         listens,
         listeners,
+        batches,
         calls,
         entries,
     } = content;
     Ok(Content {
         cookies,
-        unloaded,
-        whole,
+        loads,
         bound: turned(bound, changes),
         posts,
         listens,
         listeners: hearing(alloc, listeners, now, changes)?,
+        batches,
         calls,
         entries,
     })

@@ -6,19 +6,22 @@ ghost use Rattle.plain_jar.specs.Contents.{IsReady};
 mod asks;
 mod bars;
 mod cells;
+mod commits;
 mod listeners;
+mod loading;
 mod moves;
 mod plans;
 mod posts;
 mod rows;
 mod runs;
+mod stored;
 mod words;
 
 use crate::PlainJar;
 use asks::{moment, op};
-use jar_types::{Event, JarCore, NoMemory, Prepared, Texts};
+use jar_types::{Event, JarCore, NoMemory, Prepared};
 use rows::{Row, delete, get, set, until, whole};
-use runs::{gives, replies};
+use runs::{fresh, gives, replies};
 use std::alloc::Global;
 use std::test::Fail;
 
@@ -128,7 +131,7 @@ fn an_expired_cookie_is_not_there_to_be_deleted(rt: HostRuntime) -> Result<(), F
 /// Has the op of a row made ready.
 fn made_ready(alloc: Global, jar: &mut PlainJar, row: &Row) -> Result<Prepared, NoMemory>
     requires { jar.old.state.entries < 2 ^ 64 - 1 }
-    ensures ready { IfOk result (λ prepared. IsReady jar.new prepared.entry) }
+    ensures ready { IfOk result (λ prepared. IsReady jar.new prepared) }
     ensures same { jar.new.state ≡ jar.old.state }
 {
     let now = moment(row.now)?;
@@ -146,7 +149,7 @@ fn made_ready(alloc: Global, jar: &mut PlainJar, row: &Row) -> Result<Prepared, 
 /// What a jar answers that had two Sets made ready and settled the later one.
 #[tactic(auto, using(crate::proofs::EntryLemmas::entries_rise))]
 fn after_two(alloc: Global) -> Result<String, NoMemory> {
-    let mut jar = PlainJar::fresh(alloc, Texts::new(alloc))?;
+    let mut jar = fresh(alloc)?;
     let early = made_ready(alloc, &mut jar, &set("a", "/", 5))?;
     let late = made_ready(alloc, &mut jar, &set("b", "/", 5))?;
     drop(early);

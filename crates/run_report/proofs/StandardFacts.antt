@@ -12,7 +12,8 @@ use Rattle.jar_types.specs.declared.change.Change.{Change}
 use Rattle.jar_types.specs.declared.cookie.Cookie.{Cookie}
 use Rattle.jar_types.specs.declared.cookie.CookieId.{CookieId}
 use Rattle.jar_types.specs.declared.entry.Entry.TheVariants.{Call, Jar}
-use Rattle.jar_types.specs.declared.entry.Own.TheVariants.{Whole}
+use Rattle.jar_types.specs.declared.entry.Own.{Own}
+use Rattle.jar_types.specs.declared.entry.Own.TheVariants.{Want, WantAll, Begun, Loaded, Lost, Whole, Taken, Acked, CommitLost}
 use Rattle.jar_types.specs.declared.listener.Scope.TheVariants.{All, Seen, Named}
 use Rattle.jar_types.specs.declared.op.Op.{Op}
 use Rattle.jar_types.specs.declared.op.Op.TheVariants as op
@@ -26,6 +27,7 @@ use Rattle.run_report.specs.Changes.{cause_word}
 use Rattle.run_report.specs.Cookies.{priority_word, same_site_word}
 use Rattle.run_report.specs.Items.{item_data}
 use Rattle.run_report.specs.Ops.{op_data}
+use Rattle.run_report.specs.Owns.{own_data}
 use Rattle.run_report.specs.RefusalNames.{refusal_word}
 use Rattle.run_report.specs.Replies.{reply_data}
 use Rattle.run_report.specs.Reports.{report_text}
@@ -113,6 +115,23 @@ whole : report_text [] ([] ∷ []) (Jar (Whole 12) ∷ []) ≡ codes "{\"actors\
 unfolding digits serde_json_on_literals
 whole = refl
 
+-- entries of the jar's own
+abbrev OwnIs : Own → List ℕ → Type 0
+OwnIs own text = compact_text (own_data own) ≡ text
+
+loads : OwnIs (Want (codes "h.test")) (codes "{\"key\":\"h.test\",\"own\":\"want\"}") × OwnIs WantAll (codes "{\"own\":\"want_all\"}")
+    × OwnIs (Begun (codes "h.test")) (codes "{\"key\":\"h.test\",\"own\":\"begun\"}")
+    × OwnIs (Loaded (codes "h.test") []) (codes "{\"cookies\":[],\"key\":\"h.test\",\"own\":\"loaded\"}")
+    × OwnIs (Loaded (codes "h.test") (cookie ∷ [])) (codes "{\"cookies\":[" ++ (cookie_text ++ codes "],\"key\":\"h.test\",\"own\":\"loaded\"}"))
+    × OwnIs (Lost (codes "h.test")) (codes "{\"key\":\"h.test\",\"own\":\"lost\"}")
+unfolding digits serde_json_on_literals
+loads = (refl, refl, refl, refl, refl, refl)
+
+commits : OwnIs Taken (codes "{\"own\":\"taken\"}") × OwnIs (Acked 12) (codes "{\"own\":\"acked\",\"place\":12}")
+    × OwnIs (CommitLost 12) (codes "{\"own\":\"commit_lost\",\"place\":12}")
+unfolding digits serde_json_on_literals
+commits = (refl, refl, refl)
+
 -- reports of no actor, and of two hosts and two actors, of which the first made no step
 no_actor : report_text [] [] [] ≡ codes "{\"actors\":[],\"hosts\":[],\"journal\":[]}\n"
 unfolding digits serde_json_on_literals
@@ -168,6 +187,11 @@ listens : OpIs (op.Listen All) (codes "{\"kind\":\"listen\",\"name\":null,\"requ
 unfolding digits serde_json_on_literals
 listens = (refl, refl, refl, refl, refl)
 
+-- ops: on all cookies
+on_all : OpIs op.All (codes "{\"kind\":\"all\"}") × OpIs op.Clear (codes "{\"kind\":\"clear\"}")
+unfolding digits serde_json_on_literals
+on_all = (refl, refl)
+
 -- ops: between callers
 posts : OpIs op.Post (codes "{\"kind\":\"post\"}") × OpIs (op.Hear 3 10) (codes "{\"actor\":3,\"kind\":\"hear\",\"n\":10}")
 unfolding digits serde_json_on_literals
@@ -177,15 +201,15 @@ posts = (refl, refl)
 reply_words : ReplyIs reply.Stored (codes "\"stored\"") × ReplyIs reply.Replaced (codes "\"replaced\"") × ReplyIs reply.Removed (codes "\"removed\"")
     × ReplyIs reply.NothingThere (codes "\"nothing_there\"") × ReplyIs reply.OverwriteSecure (codes "\"overwrite_secure\"")
     × ReplyIs reply.OverwriteHttpOnly (codes "\"overwrite_http_only\"") × ReplyIs reply.NoListener (codes "\"no_listener\"")
-    × ReplyIs reply.Heard (codes "\"heard\"") × ReplyIs (reply.Flag true) (codes "true") × ReplyIs (reply.Flag false) (codes "false")
+    × ReplyIs reply.Heard (codes "\"heard\"") × ReplyIs reply.StoreFault (codes "\"store_fault\"") × ReplyIs (reply.Flag true) (codes "true") × ReplyIs (reply.Flag false) (codes "false")
 unfolding digits serde_json_on_literals
-reply_words = (refl, refl, refl, refl, refl, refl, refl, refl, refl, refl)
+reply_words = (refl, refl, refl, refl, refl, refl, refl, refl, refl, refl, refl)
 
 -- replies that have a number
 reply_numbers : ReplyIs (reply.Cell None) (codes "{\"cell\":null}") × ReplyIs (reply.Cell (Some 4096)) (codes "{\"cell\":4096}")
-    × ReplyIs (reply.Listener 2) (codes "{\"listener\":2}") × ReplyIs (reply.Posted 3) (codes "{\"post\":3}")
+    × ReplyIs (reply.Count 180) (codes "{\"count\":180}") × ReplyIs (reply.Listener 2) (codes "{\"listener\":2}") × ReplyIs (reply.Posted 3) (codes "{\"post\":3}")
 unfolding digits serde_json_on_literals
-reply_numbers = (refl, refl, refl, refl)
+reply_numbers = (refl, refl, refl, refl, refl)
 
 -- replies to a get, of HTTP and of a script
 reply_cookies : ReplyIs (reply.Cookies []) (codes "{\"cookies\":[]}")

@@ -5,6 +5,7 @@ pub mod Requests
 pub mod Ops
 pub mod Changes
 pub mod Replies
+pub mod Owns
 pub mod Entries
 pub mod Items
 pub mod Reports

@@ -1,9 +1,9 @@
 -- Ops as JSON, each with its kind. This jar's own rule: docs/DEFINITIONS.md.
 use Rattle.std.specs.Prelude.{ℕ, List, Option, None, Some, codes}
 use Rattle.serde_json.specs.Data.{Data, boolean, string, object, no_members, member}
-use Rattle.jar_types.specs.declared.listener.Scope.TheVariants.{All, Seen, Named}
+use Rattle.jar_types.specs.declared.listener.Scope.TheVariants as scope
 use Rattle.jar_types.specs.declared.op.Op.{Op}
-use Rattle.jar_types.specs.declared.op.Op.TheVariants.{Bind, Set, Get, Delete, Listen, Changes, Unlisten, Post, Hear}
+use Rattle.jar_types.specs.declared.op.Op.TheVariants.{Bind, Set, Get, Delete, All, Clear, Listen, Changes, Unlisten, Post, Hear}
 use Rattle.jar_types.specs.declared.request.Request.{Request}
 use Rattle.run_report.specs.Values.{count_data, text_or_null, sole}
 use Rattle.run_report.specs.Cookies.{cookie_data}
@@ -57,9 +57,11 @@ op_data (Delete key id) =
     (member (codes "name") (string id.name)
     (member (codes "path") (string id.path)
     no_members)))))
-op_data (Listen All) = listen_data None None
-op_data (Listen (Seen request)) = listen_data None (Some request)
-op_data (Listen (Named request name)) = listen_data (Some name) (Some request)
+op_data All = kind_data (codes "all")
+op_data Clear = kind_data (codes "clear")
+op_data (Listen scope.All) = listen_data None None
+op_data (Listen (scope.Seen request)) = listen_data None (Some request)
+op_data (Listen (scope.Named request name)) = listen_data (Some name) (Some request)
 op_data (Changes number) = listener_op_data (codes "changes") number
 op_data (Unlisten number) = listener_op_data (codes "unlisten") number
 op_data Post = kind_data (codes "post")

@@ -3,7 +3,7 @@ use Rattle.std.specs.Prelude.{codes}
 use Rattle.serde_json.specs.Data.{Data, boolean, string, object, no_members, member}
 use Rattle.jar_types.specs.declared.op.Reply.{Reply}
 use Rattle.jar_types.specs.declared.op.Reply.TheVariants.{Cell, Stored, Replaced, Removed, NothingThere, OverwriteSecure, OverwriteHttpOnly}
-use Rattle.jar_types.specs.declared.op.Reply.TheVariants.{Cookies, Script, Flag, Listener, Changes, NoListener, Posted, Heard}
+use Rattle.jar_types.specs.declared.op.Reply.TheVariants.{Cookies, Script, Flag, Count, Listener, Changes, NoListener, Posted, Heard, StoreFault}
 use Rattle.run_report.specs.Values.{count_data, count_or_null, sole}
 use Rattle.run_report.specs.Changes.{changes_data}
 use Rattle.run_report.specs.Cookies.{cookies_data}
@@ -25,8 +25,10 @@ reply_data (Script text version until) =
     (member (codes "version") (count_or_null version)
     no_members)))
 reply_data (Flag flag) = boolean flag
+reply_data (Count count) = sole (codes "count") (count_data count)
 reply_data (Listener number) = sole (codes "listener") (count_data number)
 reply_data (Changes changes) = sole (codes "changes") (changes_data changes)
 reply_data NoListener = string (codes "no_listener")
 reply_data (Posted count) = sole (codes "post") (count_data count)
 reply_data Heard = string (codes "heard")
+reply_data StoreFault = string (codes "store_fault")

@@ -1,13 +1,14 @@
 //! Entries of the journal as JSON.
 
-ghost use Rattle.jar_types.specs.declared.entry.Entry.TheVariants.{Call, Jar};
+ghost use Rattle.jar_types.specs.declared.entry.Entry.TheVariants.{Call};
 ghost use Rattle.run_report.specs.Entries.{entry_data, entries_data};
 ghost use Rattle.run_report.specs.Tokens.{WritesData};
 
-use crate::member::{write_count, write_moment, write_word};
+use crate::member::{write_count, write_moment};
 use crate::op::write_op;
+use crate::own::write_own;
 use crate::reply::write_reply;
-use jar_types::{Entry, Op, Own, Reply};
+use jar_types::{Entry, Op, Reply};
 use jar_values::Moment;
 use json::Writer;
 use std::alloc::AllocError;
@@ -34,7 +35,7 @@ fn write_entry(out: &mut Writer, entry: &Entry) -> Result<(), AllocError>
             op,
             reply,
         } => write_call(out, *caller, *now, op, reply),
-        Entry::Jar(own) => write_own(out, *own),
+        Entry::Jar(own) => write_own(out, own),
     }
 }
 
@@ -57,18 +58,4 @@ fn write_call(
     write_reply(out, reply)?;
     out.end_object()?;
     Ok(())
-}
-
-/// Writes an entry of the jar's own.
-fn write_own(out: &mut Writer, own: Own) -> Result<(), AllocError>
-    ensures { WritesData result out.old out.new (entry_data (Jar own)) }
-{
-    out.begin_object()?;
-    match own {
-        Own::Whole(now) => {
-            write_moment(out, "now", now)?;
-            write_word(out, "own", "whole")?;
-        }
-    }
-    out.end_object()
 }

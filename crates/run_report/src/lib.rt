@@ -7,6 +7,7 @@ mod entry;
 mod item;
 mod member;
 mod op;
+mod own;
 mod refusal_name;
 mod reply;
 mod report;

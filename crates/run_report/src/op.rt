@@ -26,6 +26,8 @@ pub fn write_op(out: &mut Writer, op: &Op) -> Result<(), AllocError>
         } => write_set(out, cookie, *script, *secure),
         Op::Get(request) => write_get(out, request),
         Op::Delete { key, id } => write_delete(out, key, id),
+        Op::All => write_kind(out, "all"),
+        Op::Clear => write_kind(out, "clear"),
         Op::Listen(scope) => write_listen(out, scope),
         Op::Changes(number) => write_listener_op(out, "changes", *number),
         Op::Unlisten(number) => write_listener_op(out, "unlisten", *number),

@@ -32,11 +32,13 @@ pub fn write_reply(out: &mut Writer, reply: &Reply) -> Result<(), AllocError>
             until,
         } => write_script(out, text, *version, *until),
         Reply::Flag(flag) => out.boolean(*flag),
+        Reply::Count(count) => write_sole_count(out, "count", *count),
         Reply::Listener(number) => write_sole_count(out, "listener", *number),
         Reply::Changes(changes) => write_taken(out, changes.as_slice()),
         Reply::NoListener => out.string("no_listener"),
         Reply::Posted(count) => write_sole_count(out, "post", *count),
         Reply::Heard => out.string("heard"),
+        Reply::StoreFault => out.string("store_fault"),
     }
 }
 

@@ -10,6 +10,7 @@ use std::test::Fail;
 
 mod items;
 mod ops;
+mod owns;
 mod replies;
 
 /// The text of [`cookie`].

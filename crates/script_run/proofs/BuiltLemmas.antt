@@ -1,45 +1,55 @@
--- Of a script that is built, each step is.
-use Rattle.std.proofs.Common.{◌≡◌, ℕ, zero, suc, List, [], ◌∷◌, Bool, true, false, cond, Option, None, Some, slice_get, refl, sym}
+-- Of a script that is built and admitted, each step is one of a fetch.
+use Rattle.std.proofs.Common.{◌≡◌, ℕ, zero, suc, List, [], ◌∷◌, Bool, true, false, cond, Option, None, Some, slice_get, refl, sym, ◌∙◌}
 use Rattle.std.specs.Prelude.{is_some}
-use Rattle.std.specs.Option.{option_or}
 use Rattle.script_text.specs.declared.actor.Actor.{Actor}
 use Rattle.script_text.specs.declared.script.Script.{Script}
 use Rattle.script_text.specs.declared.spot.Spot.{Spot}
-use Rattle.script_text.specs.declared.spot.Spot.TheVariants.{OfActor, OfStep}
+use Rattle.script_text.specs.declared.spot.Spot.TheVariants.{OfActor}
 use Rattle.script_text.specs.declared.step.Step.{Step}
-use Rattle.script_text.specs.Deadlocks.{steps_at}
-use Rattle.script_run.specs.Built.{is_built, unbuilt_step, unbuilt_in, unbuilt_from, IsBuilt}
+use Rattle.script_text.specs.declared.step.What.{What}
+use Rattle.script_text.specs.declared.step.What.TheVariants.{Set, Get, Delete, All, Clear, Listen, Changes, Unlisten, Post, Hear, Read, Write}
+use Rattle.script_text.specs.Admitted.{IsAdmitted, MayStand, Where, place_of_step}
+use Rattle.script_text.specs.Deadlocks.{steps_at, steps_of}
+use Rattle.script_run.specs.Built.{is_built, unbuilt_from, IsBuilt}
 
-first_built : (b : Bool) (spot : Spot) (rest : Option Spot) → cond b rest (Some spot) ≡ None → (b ≡ true) × (rest ≡ None)
-first_built true spot rest e = (refl, e)
-first_built false spot rest e = absurd cc
+first_built : (b : Bool) (spot : Spot) (rest : Option Spot) → cond b (Some spot) rest ≡ None → (b ≡ false) × (rest ≡ None)
+first_built true spot rest e = absurd cc
+first_built false spot rest e = (refl, e)
 
-neither : (first rest : Option Spot) → option_or first rest ≡ None → (first ≡ None) × (rest ≡ None)
-neither None rest e = (refl, e)
-neither (Some spot) rest e = absurd cc
+-- no actor renders
+none_render : (index : ℕ) (actors : List Actor) → unbuilt_from index actors ≡ None → (a : ℕ) (actor : Actor)
+    → slice_get actors a ≡ Some actor → is_some actor.view ≡ false
+none_render index [] e a actor is = absurd cc
+none_render index (x ∷ xs) e zero actor is =
+    let same : x ≡ actor = cc in
+    rw (sym same) (first_built (is_some x.view) (OfActor index) (unbuilt_from (suc index) xs) e).0
+none_render index (x ∷ xs) e (suc a) actor is =
+    none_render (suc index) xs (first_built (is_some x.view) (OfActor index) (unbuilt_from (suc index) xs) e).1 a actor is
 
-steps_built : (a index : ℕ) (steps : List Step) → unbuilt_step a index steps ≡ None
-    → (i : ℕ) (step : Step) → slice_get steps i ≡ Some step → is_built step.what ≡ true
-steps_built a index [] e i step is = absurd cc
-steps_built a index (s ∷ ss) e zero step is =
-    let same : s ≡ step = cc in
-    rw (sym same) (first_built (is_built s.what) (OfStep a index) (unbuilt_step a (suc index) ss) e).0
-steps_built a index (s ∷ ss) e (suc i) step is =
-    steps_built a (suc index) ss (first_built (is_built s.what) (OfStep a index) (unbuilt_step a (suc index) ss) e).1 i step is
+-- a step that may stand where no actor renders is one of a fetch
+fetch_step : (at : Where) (what : What) → at.renders ≡ false → MayStand at what → is_built what ≡ true
+fetch_step at (Set ask line) none may = refl
+fetch_step at (Get ask) none may = refl
+fetch_step at (Delete host name path) none may = refl
+fetch_step at All none may = refl
+fetch_step at Clear none may = refl
+fetch_step at (Listen ask name) none may = refl
+fetch_step at (Changes listener) none may = refl
+fetch_step at (Unlisten listener) none may = refl
+fetch_step at Post none may = refl
+fetch_step at (Hear actor n) none may = refl
+fetch_step at (Read url) none may = let clash : true ≡ false = sym may ∙ none in absurd cc
+fetch_step at (Write line url) none may = let clash : true ≡ false = sym may ∙ none in absurd cc
 
-sees_nothing : (b : Bool) (spot : Spot) (rest : Option Spot) → cond b (Some spot) rest ≡ None → rest ≡ None
-sees_nothing true spot rest e = absurd cc
-sees_nothing false spot rest e = e
+-- a step of an actor is a step of one that there is
+pub actor_step : (o : Option Actor) (i : ℕ) (step : Step) → slice_get (steps_of o) i ≡ Some step
+    → (actor : Actor) × (o ≡ Some actor) × (slice_get actor.steps i ≡ Some step)
+actor_step None i step is = absurd cc
+actor_step (Some actor) i step is = (actor, refl, is)
 
-actors_built : (index : ℕ) (actors : List Actor) → unbuilt_from index actors ≡ None
-    → (a i : ℕ) (step : Step) → slice_get (steps_at actors a) i ≡ Some step → is_built step.what ≡ true
-actors_built index [] e a i step is = absurd cc
-actors_built index (x ∷ xs) e zero i step is =
-    let own = neither (unbuilt_in index x) (unbuilt_from (suc index) xs) e in
-    steps_built index 0 x.steps (sees_nothing (is_some x.view) (OfActor index) (unbuilt_step index 0 x.steps) own.0) i step is
-actors_built index (x ∷ xs) e (suc a) i step is =
-    actors_built (suc index) xs (neither (unbuilt_in index x) (unbuilt_from (suc index) xs) e).1 a i step is
-
-pub built_step : (script : Script) → IsBuilt script
+pub built_step : (script : Script) → IsAdmitted script → IsBuilt script
     → (a i : ℕ) (step : Step) → slice_get (steps_at script.actors a) i ≡ Some step → is_built step.what ≡ true
-built_step script built a i step is = actors_built 0 script.actors built a i step is
+built_step script admitted built a i step is =
+    let there = actor_step (slice_get script.actors a) i step is in
+    let one = admitted.each_actor a there.0 there.1 in
+    fetch_step (place_of_step script there.0 i) step.what (none_render 0 script.actors built a there.0 there.1) (one.steps_stand i step there.2)

@@ -5,12 +5,15 @@ use Rattle.std.proofs.lemmas.Bool.{cases_eq}
 use Rattle.std.proofs.lemmas.Bool.Decides.{nat_tests}
 use Rattle.jar_types.specs.declared.op.Op.{Op}
 use Rattle.jar_types.specs.declared.op.Reply.{Reply}
-use Rattle.jar_types.specs.declared.entry.Own.TheVariants.{Whole}
+use Rattle.jar_types.specs.declared.entry.Own.{Own}
 use Rattle.jar_types.specs.declared.entry.Event.TheVariants.{Call as CallEvent, Jar as JarEvent}
 use Rattle.jar_types.specs.declared.entry.Entry.{Entry}
 use Rattle.jar_types.specs.declared.entry.Entry.TheVariants.{Call, Jar}
-use Rattle.jar_types.specs.Posts.{op_wanting}
-use Rattle.jar_types.specs.Steps.{entry_of, op_step, own_may_stand}
+use Rattle.jar_types.specs.declared.jar_core.CoreRefusal.{CoreRefusal}
+use Rattle.jar_types.specs.declared.jar_core.CoreRefusal.TheVariants.{Pending, NotYet, NoMemory}
+use Rattle.jar_types.specs.Journals.{stored_keys}
+use Rattle.jar_types.specs.Steps.{call_step, entry_of, own_may_stand}
+use Rattle.jar_types.specs.Waits.{op_waits}
 use Rattle.run_report.specs.declared.item.Item.{Item}
 use Rattle.run_report.specs.declared.item.Item.TheVariants.{At, Refused}
 use Rattle.run_report.specs.declared.refusal_name.RefusalName.TheVariants.{Spent}
@@ -22,7 +25,10 @@ use Rattle.script_run.specs.declared.ask.Ask.{Ask}
 use Rattle.script_run.specs.declared.ask.Ask.TheVariants as ask
 use Rattle.script_run.specs.Ask.{ask_of}
 use Rattle.script_run.specs.Legal.{count_calls, FitsOp, FitsAsk, FitEach, ItemsFitTheSteps}
-use Rattle.script_run.specs.Runs.{Run, items_at, left, happened, noted, called_where, called_within, asked, tried_step, next_step, tried_first, happened_where, rounds}
+use Rattle.script_run.specs.Rounds.{Ends, rounds, rules_of}
+use Rattle.script_run.specs.Runs.{Run, begin, items_at, left, did, happened, noted, called_where, called_within, asked, tried_step, next_step, want_of}
+use Rattle.script_run.proofs.ClosedLemmas.{Closed, closed_flush, closed_rounds}
+use Rattle.script_run.proofs.RoundLemmas.{flush_items}
 use Rattle.script_run.proofs.SameLemmas.{call_calls}
 
 -- ---- a journal that goes on
@@ -37,10 +43,10 @@ count_call [] a now op r = refl
 count_call (Call caller now' op' reply ∷ es) a now op r = ap (λ n. n + 1) (count_call es a now op r)
 count_call (Jar own ∷ es) a now op r = count_call es a now op r
 
-count_own : (journal : List Entry) (start : ℕ) → count_calls (journal ++ Jar (Whole start) ∷ []) ≡ count_calls journal
-count_own [] start = refl
-count_own (Call caller now op reply ∷ es) start = ap (λ n. n + 1) (count_own es start)
-count_own (Jar own ∷ es) start = count_own es start
+count_own : (journal : List Entry) (own : Own) → count_calls (journal ++ Jar own ∷ []) ≡ count_calls journal
+count_own [] own = refl
+count_own (Call caller now op reply ∷ es) own = ap (λ n. n + 1) (count_own es own)
+count_own (Jar other ∷ es) own = count_own es own
 
 op_later : (limit : ℕ) (journal : List Entry) (e : Entry) (a now : ℕ) (op : Op) (item : Item) → FitsOp limit journal a now op item
     → FitsOp limit (journal ++ e ∷ []) a now op item
@@ -118,20 +124,34 @@ noted_fits script b h item step fits low is fit = record {
 happened_fits : (script : Script) (r : Run) (a now : ℕ) (op : Op) → Fits script r → Fits script (happened r (CallEvent a now op))
 happened_fits script r a now op fits = record {
   many = fits.many;
-  calls = call_calls r.state a now op ∙ (ap (λ n. n + 1) fits.calls ∙ sym (count_call r.journal a now op (op_step r.state a now op).reply));
+  calls = call_calls r.state a now op ∙ (ap (λ n. n + 1) fits.calls ∙ sym (count_call r.journal a now op (call_step r.state a now op).reply));
   each = λ c within. each_later script r.journal (entry_of r.state (CallEvent a now op)) c (take (length (items_at r c)) (steps_at script.actors c)) (items_at r c) (fits.each c within);
 }
 
-where_fits : (script : Script) (a : ℕ) (r : Run) (step : Step) (op : Op) (o : Option ℕ) → Fits script r → a < length script.actors
+-- the jar did something itself
+own_fits_run : (script : Script) (r : Run) (own : Own) → Fits script r → Fits script (happened r (JarEvent own))
+own_fits_run script r own fits = record {
+  many = fits.many;
+  calls = fits.calls ∙ sym (count_own r.journal own);
+  each = λ c within. each_later script r.journal (Jar own) c (take (length (items_at r c)) (steps_at script.actors c)) (items_at r c) (fits.each c within);
+}
+
+did_fits : (script : Script) (may : Bool) (r : Run) (own : Own) → Fits script r → Fits script (did may r own)
+did_fits script true r own fits = own_fits_run script r own fits
+did_fits script false r own fits = fits
+
+where_fits : (script : Script) (a : ℕ) (r : Run) (step : Step) (op : Op) (o : Option CoreRefusal) → Fits script r → a < length script.actors
     → next_step script a r ≡ Some step → ask_of script.suffixes step ≡ Some (ask.Op op) → Fits script (called_where o a r step.now op)
-where_fits script a r step op (Some found) fits low is asks = fits
+where_fits script a r step op (Some (Pending what)) fits low is asks = did_fits script (own_may_stand r.state (want_of what)) r (want_of what) fits
+where_fits script a r step op (Some (NotYet found)) fits low is asks = fits
+where_fits script a r step op (Some NoMemory) fits low is asks = fits
 where_fits script a r step op None fits low is asks =
     let v = CallEvent a step.now op in
     let h = happened r v in
     let place = length h.journal in
     let fit : FitsAsk script.limit h.journal a step.now (ask_of script.suffixes step) (At place) = rw asks (record {
       before = r.journal;
-      reply = (op_step r.state a step.now op).reply;
+      reply = (call_step r.state a step.now op).reply;
       later = [];
       is = refl;
       place_is = length-append r.journal (entry_of r.state v ∷ []);
@@ -147,7 +167,7 @@ within_fits script a r step op true spent fits low is asks =
     let fit : FitsAsk script.limit r.journal a step.now (ask_of script.suffixes step) (Refused Spent) = rw asks (refl, omega (arith, all, calls)) in
     noted_fits script a r (Refused Spent) step fits low is fit
 within_fits script a r step op false spent fits low is asks =
-    where_fits script a r step op (op_wanting r.state op) fits low is asks
+    where_fits script a r step op (op_waits r.state op) fits low is asks
 
 asked_fits : (script : Script) (a : ℕ) (r : Run) (step : Step) (o : Option Ask) → ask_of script.suffixes step ≡ o → Fits script r
     → a < length script.actors → next_step script a r ≡ Some step → Fits script (asked script a r step.now o)
@@ -163,18 +183,11 @@ step_fits : (script : Script) (a : ℕ) (r : Run) (o : Option Step) → next_ste
 step_fits script a r None is fits low = fits
 step_fits script a r (Some step) is fits low = asked_fits script a r step (ask_of script.suffixes step) refl fits low is
 
-first_fits : (script : Script) (k : ℕ) (r : Run) → Fits script r → k ≤ length script.actors → Fits script (tried_first script k r)
-first_fits script zero r fits few = fits
-first_fits script (suc k) r fits few =
-    let t = tried_first script k r in
-    step_fits script k t (next_step script k t) refl (first_fits script k r fits (omega (arith, few))) (omega (arith, few))
-
-load_fits : (script : Script) (r : Run) (is : Bool) → Fits script r → Fits script (happened_where is r (JarEvent (Whole script.start)))
-load_fits script r false fits = fits
-load_fits script r true fits = record {
-  many = fits.many;
-  calls = fits.calls ∙ sym (count_own r.journal script.start);
-  each = λ c within. each_later script r.journal (Jar (Whole script.start)) c (take (length (items_at r c)) (steps_at script.actors c)) (items_at r c) (fits.each c within);
+fits_closed : (script : Script) → Closed script (Fits script)
+fits_closed script = record {
+  tries = λ a r low fits. step_fits script a r (next_step script a r) refl fits low;
+  own = λ r own fits. own_fits_run script r own fits;
+  batch = λ r pending kept fits. record { many = fits.many; calls = fits.calls; each = fits.each };
 }
 
 abbrev no_items : ℕ → List (List Item)
@@ -193,17 +206,20 @@ none_fit : (script : Script) (a : ℕ) (steps : List Step) → FitEach script []
 none_fit script a [] = tt
 none_fit script a (s ∷ ss) = tt
 
-rounds_fit : (script : Script) (n : ℕ) → Fits script (rounds script n)
-rounds_fit script zero = record {
+begin_fits : (script : Script) (keys : List (List ℕ)) → Fits script (begin script keys)
+begin_fits script keys = record {
   many = length_no_items (length script.actors);
   calls = refl;
   each = λ a within.
       subst (λ items. FitEach script [] a (take (length items) (steps_at script.actors a)) items) (sym (none_at (length script.actors) a)) (none_fit script a (steps_at script.actors a));
 }
-rounds_fit script (suc n) =
-    let r = rounds script n in
-    let t = tried_first script (length script.actors) r in
-    load_fits script t (own_may_stand t.state (Whole script.start)) (first_fits script (length script.actors) r (rounds_fit script n) (omega arith))
+
+ended_fits : (script : Script) (hosts : List (List ℕ)) (run : Run) → Ends script hosts run → Fits script run
+ended_fits script hosts run ends =
+    let c = fits_closed script in
+    let P = Fits script in
+    subst P (sym ends.is) (closed_flush script P c true ends.commits (rounds script hosts (ends.last ∷ ends.earlier))
+    (closed_rounds script P c hosts (ends.last ∷ ends.earlier) (begin_fits script (stored_keys (rules_of script hosts)))))
 
 -- ---- at the end
 
@@ -224,8 +240,15 @@ take_all (s ∷ ss) (suc n) low = ap (λ ts. s ∷ ts) (take_all ss n (omega (ar
 is_none_left : (n : ℕ) → (n == 0) ≡ true → n ≡ 0
 is_none_left n e = grind (arith, nat_tests)
 
+-- the last commit does no step
+last_left : (script : Script) (hosts : List (List ℕ)) (run : Run) (ends : Ends script hosts run)
+    → left script run ≡ left script (rounds script hosts (ends.last ∷ ends.earlier))
+last_left script hosts run ends =
+    ap (left script) ends.is ∙ ap (λ lists. steps_left script.actors (map length lists)) (flush_items true ends.commits (rounds script hosts (ends.last ∷ ends.earlier)))
+
 pub items_fit : ItemsFitTheSteps
-items_fit script run a admitted built ends low =
-    let fits : Fits script run = subst (Fits script) (sym ends.is) (rounds_fit script ends.count) in
-    let done = all_done script.actors run.items a fits.many (is_none_left (left script run) ends.done) low in
+items_fit script hosts run a admitted built ends low =
+    let fits : Fits script run = ended_fits script hosts run ends in
+    let none : left script run ≡ 0 = last_left script hosts run ends ∙ is_none_left (left script (rounds script hosts (ends.last ∷ ends.earlier))) ends.done in
+    let done = all_done script.actors run.items a fits.many none low in
     subst (λ steps. FitEach script run.journal a steps (items_at run a)) (take_all (steps_at script.actors a) (length (items_at run a)) done) (fits.each a low)

@@ -1,16 +1,19 @@
 -- Why the items of an actor name its calls.
-use Rattle.std.proofs.Common.{◌≡◌, ◌≢◌, ◌<◌, ◌≤◌, ◌+◌, ◌⊎◌, ℕ, suc, zero, List, [], ◌∷◌, ◌++◌, Bool, true, false, cond, Option, None, Some, length, replicate, refl, ap, sym, ◌∙◌, arith, subst, inl, inr, length-append, length-set, append-nil, get_or-set_same, get_or-set_other}
+use Rattle.std.proofs.Common.{◌≡◌, ◌≢◌, ◌<◌, ◌+◌, ◌⊎◌, ℕ, suc, zero, List, [], ◌∷◌, ◌++◌, Bool, true, false, cond, Option, None, Some, length, replicate, refl, ap, sym, ◌∙◌, arith, subst, inl, inr, length-append, length-set, append-nil, get_or-set_same, get_or-set_other}
 use Rattle.std.specs.Prelude.{◌==◌, nat_le, slice_index_or}
 use Rattle.std.proofs.lemmas.Bool.{cases_eq}
 use Rattle.std.proofs.lemmas.Bool.Decides.{nat_tests}
 use Rattle.jar_types.specs.declared.op.Op.{Op}
-use Rattle.jar_types.specs.declared.entry.Own.TheVariants.{Whole}
+use Rattle.jar_types.specs.declared.entry.Own.{Own}
 use Rattle.jar_types.specs.declared.entry.Event.TheVariants.{Call as CallEvent, Jar as JarEvent}
 use Rattle.jar_types.specs.declared.entry.Entry.{Entry}
 use Rattle.jar_types.specs.declared.entry.Entry.TheVariants.{Call, Jar}
-use Rattle.jar_types.specs.Posts.{op_wanting}
+use Rattle.jar_types.specs.declared.jar_core.CoreRefusal.{CoreRefusal}
+use Rattle.jar_types.specs.declared.jar_core.CoreRefusal.TheVariants.{Pending, NotYet, NoMemory}
+use Rattle.jar_types.specs.Journals.{stored_keys}
 use Rattle.jar_types.specs.States.{JarState}
 use Rattle.jar_types.specs.Steps.{entry_of, own_may_stand}
+use Rattle.jar_types.specs.Waits.{op_waits}
 use Rattle.run_report.specs.declared.item.Item.{Item}
 use Rattle.run_report.specs.declared.item.Item.TheVariants.{At, Refused}
 use Rattle.run_report.specs.declared.refusal_name.RefusalName.{RefusalName}
@@ -21,7 +24,9 @@ use Rattle.script_run.specs.declared.ask.Ask.{Ask}
 use Rattle.script_run.specs.declared.ask.Ask.TheVariants as ask
 use Rattle.script_run.specs.Ask.{ask_of}
 use Rattle.script_run.specs.Legal.{call_places, named_places, ItemsNameTheCalls}
-use Rattle.script_run.specs.Runs.{Run, items_at, noted, called, called_where, called_within, asked, tried_step, next_step, tried_first, happened_where, rounds}
+use Rattle.script_run.specs.Rounds.{Ends, rounds, rules_of}
+use Rattle.script_run.specs.Runs.{Run, begin, items_at, did, happened, noted, called, called_where, called_within, asked, tried_step, next_step, want_of}
+use Rattle.script_run.proofs.ClosedLemmas.{Closed, closed_flush, closed_rounds}
 
 -- ---- one more item and one more entry
 
@@ -56,12 +61,12 @@ call_push a caller p (Call other at asks reply ∷ es) s now op =
 call_push a caller p (Jar own ∷ es) s now op =
     call_push a caller (p + 1) es s now op ∙ ap (λ n. call_places a (p + 1) es ++ added (caller == a) n) (omega arith)
 
-own_push : (a p : ℕ) (journal : List Entry) (s : JarState) (start : ℕ)
-    → call_places a p (journal ++ entry_of s (JarEvent (Whole start)) ∷ []) ≡ call_places a p journal
-own_push a p [] s start = refl
-own_push a p (Call caller at asks reply ∷ es) s start =
-    ap (λ places. cond (caller == a) (p ∷ places) places) (own_push a (p + 1) es s start)
-own_push a p (Jar own ∷ es) s start = own_push a (p + 1) es s start
+own_push : (a p : ℕ) (journal : List Entry) (s : JarState) (own : Own)
+    → call_places a p (journal ++ entry_of s (JarEvent own) ∷ []) ≡ call_places a p journal
+own_push a p [] s own = refl
+own_push a p (Call caller at asks reply ∷ es) s own =
+    ap (λ places. cond (caller == a) (p ∷ places) places) (own_push a (p + 1) es s own)
+own_push a p (Jar other ∷ es) s own = own_push a (p + 1) es s own
 
 -- ---- the run so far
 
@@ -120,8 +125,20 @@ called_at n b a r now op all low (inr other) within =
     ∙ sym (call_push a b 1 r.journal r.state now op
     ∙ (ap (λ own. call_places a 1 r.journal ++ added own (1 + length r.journal)) (other_is b a other) ∙ append-nil (call_places a 1 r.journal))))
 
-where_named : (n b : ℕ) (r : Run) (now : ℕ) (op : Op) (o : Option ℕ) → Named n r → b < n → Named n (called_where o b r now op)
-where_named n b r now op (Some found) all low = all
+own_named : (n : ℕ) (r : Run) (own : Own) → Named n r → Named n (happened r (JarEvent own))
+own_named n r own all = record {
+  many = all.many;
+  named = λ a within. all.named a within ∙ sym (own_push a 1 r.journal r.state own);
+}
+
+did_named : (n : ℕ) (may : Bool) (r : Run) (own : Own) → Named n r → Named n (did may r own)
+did_named n true r own all = own_named n r own all
+did_named n false r own all = all
+
+where_named : (n b : ℕ) (r : Run) (now : ℕ) (op : Op) (o : Option CoreRefusal) → Named n r → b < n → Named n (called_where o b r now op)
+where_named n b r now op (Some (Pending what)) all low = did_named n (own_may_stand r.state (want_of what)) r (want_of what) all
+where_named n b r now op (Some (NotYet found)) all low = all
+where_named n b r now op (Some NoMemory) all low = all
 where_named n b r now op None all low = record {
   many = length-set r.items b _ ∙ all.many;
   named = λ a within. called_at n b a r now op all low (cases_eq a b) within;
@@ -129,7 +146,7 @@ where_named n b r now op None all low = record {
 
 within_named : (n b : ℕ) (r : Run) (now : ℕ) (op : Op) (full : Bool) → Named n r → b < n → Named n (called_within full b r now op)
 within_named n b r now op true all low = refused_named n b r Spent all low
-within_named n b r now op false all low = where_named n b r now op (op_wanting r.state op) all low
+within_named n b r now op false all low = where_named n b r now op (op_waits r.state op) all low
 
 asked_named : (script : Script) (n b : ℕ) (r : Run) (now : ℕ) (o : Option Ask) → Named n r → b < n → Named n (asked script b r now o)
 asked_named script n b r now None all low = all
@@ -140,30 +157,25 @@ step_named : (script : Script) (n b : ℕ) (r : Run) (o : Option Step) → Named
 step_named script n b r None all low = all
 step_named script n b r (Some step) all low = asked_named script n b r step.now (ask_of script.suffixes step) all low
 
-first_named : (script : Script) (n k : ℕ) (r : Run) → Named n r → k ≤ n → Named n (tried_first script k r)
-first_named script n zero r all few = all
-first_named script n (suc k) r all few =
-    let t = tried_first script k r in
-    step_named script n k t (next_step script k t) (first_named script n k r all (omega (arith, few))) (omega (arith, few))
-
-load_named : (n start : ℕ) (r : Run) (is : Bool) → Named n r → Named n (happened_where is r (JarEvent (Whole start)))
-load_named n start r false all = all
-load_named n start r true all = record {
-  many = all.many;
-  named = λ a within. all.named a within ∙ sym (own_push a 1 r.journal r.state start);
+named_closed : (script : Script) → Closed script (Named (length script.actors))
+named_closed script = record {
+  tries = λ a r low all. step_named script (length script.actors) a r (next_step script a r) all low;
+  own = λ r own all. own_named (length script.actors) r own all;
+  batch = λ r pending kept all. record { many = all.many; named = all.named };
 }
 
-rounds_named : (script : Script) (k : ℕ) → Named (length script.actors) (rounds script k)
-rounds_named script zero = record {
+begin_named : (script : Script) (keys : List (List ℕ)) → Named (length script.actors) (begin script keys)
+begin_named script keys = record {
   many = length_no_items (length script.actors);
   named = λ a within. ap named_places (none_at (length script.actors) a);
 }
-rounds_named script (suc k) =
-    let n = length script.actors in
-    let r = rounds script k in
-    let t = tried_first script n r in
-    load_named n script.start t (own_may_stand t.state (Whole script.start)) (first_named script n n r (rounds_named script k) (omega arith))
+
+ended_named : (script : Script) (hosts : List (List ℕ)) (run : Run) → Ends script hosts run → Named (length script.actors) run
+ended_named script hosts run ends =
+    let c = named_closed script in
+    let P = Named (length script.actors) in
+    subst P (sym ends.is) (closed_flush script P c true ends.commits (rounds script hosts (ends.last ∷ ends.earlier))
+    (closed_rounds script P c hosts (ends.last ∷ ends.earlier) (begin_named script (stored_keys (rules_of script hosts)))))
 
 pub calls_named : ItemsNameTheCalls
-calls_named script run a ends low =
-    subst (λ (r : Run). named_places (items_at r a) ≡ call_places a 1 r.journal) (sym ends.is) ((rounds_named script ends.count).named a low)
+calls_named script hosts run a ends low = (ended_named script hosts run ends).named a low

@@ -1,28 +1,37 @@
--- The limit of an input, the statuses and the line of each refusal, as docs/DEFINITIONS.md has them; what isn't built,
--- what steps ask, calls and loads at small values; and what the causes of answers keep out.
-use Rattle.std.proofs.Common.{◌≡◌, ℕ, List, [], ◌∷◌, length, take, inl, inr, true, false, codes, None, Some, refl, ap, arith}
+-- The limits of an input and of hosts, the statuses and the line of each refusal, as docs/DEFINITIONS.md has them; what isn't built,
+-- what steps ask, calls, loads, commits and rounds at small values; and what the causes of answers keep out.
+use Rattle.std.proofs.Common.{◌≡◌, ℕ, zero, suc, List, [], ◌∷◌, length, map, take, inl, inr, true, false, codes, None, Some, refl, ap, arith}
 use Rattle.std.specs.Fmt.{digits}
 use Rattle.std.proofs.lemmas.List.{length-take}
 use Rattle.serde_json.proofs.OnLiterals.{serde_json_on_literals}
 use Rattle.jar_edge.specs.Told.{SourceTold, SinkTold}
 use Rattle.jar_types.specs.declared.entry.Entry.{Entry}
 use Rattle.jar_types.specs.declared.entry.Entry.TheVariants.{Call, Jar}
-use Rattle.jar_types.specs.declared.entry.Own.TheVariants.{Whole}
+use Rattle.jar_types.specs.declared.cookie.CookieId.{CookieId}
+use Rattle.jar_types.specs.declared.entry.Own.TheVariants.{Want, Begun, Loaded, Lost, Whole, Taken, Acked, CommitLost}
 use Rattle.jar_types.specs.declared.listener.Scope.TheVariants as scope
 use Rattle.jar_types.specs.declared.op.Op.TheVariants as op
-use Rattle.jar_types.specs.declared.op.Reply.TheVariants.{Posted, Heard}
+use Rattle.jar_types.specs.declared.op.Reply.TheVariants.{Posted, Heard, StoreFault}
+use Rattle.jar_types.specs.declared.request.Request.{Request}
+use Rattle.jar_types.specs.declared.request.Context.TheVariants.{Strict}
+use Rattle.jar_types.specs.declared.row.RowChange.{RowChange}
+use Rattle.jar_types.specs.declared.row.RowChange.TheVariants.{Drop}
+use Rattle.jar_types.specs.RowChanges.{change_id}
 use Rattle.jar_types.specs.States.{opening}
 use Rattle.run_report.specs.declared.item.Item.TheVariants.{At, Refused}
 use Rattle.run_report.specs.declared.refusal_name.RefusalName.TheVariants.{Spent, Control}
 use Rattle.script_run.specs.declared.ask.Ask.TheVariants as ask
-use Rattle.script_run.specs.declared.status.TheConstants.{DONE, OTHER_WORDS, REFUSED, READ_FAULT, WRITE_FAULT, NO_MEMORY}
+use Rattle.script_run.specs.declared.status.TheConstants.{DONE, OTHER_WORDS, REFUSED, READ_FAULT, WRITE_FAULT, STORE_FAULT, NO_MEMORY}
+use Rattle.script_run.specs.declared.rounds.TheConstants.{MOST_HOSTS}
 use Rattle.script_run.specs.declared.tool.Failure.TheVariants.{ReadFault, NoMemory}
 use Rattle.script_run.specs.declared.tool.TheConstants.{MOST_INPUT}
 use Rattle.script_run.specs.Ask.{ask_at, request_of, scope_of}
 use Rattle.script_run.specs.Built.{not_built, unbuilt}
 use Rattle.script_run.specs.Legal.{call_places, named_places}
-use Rattle.script_run.specs.Refusals.{at_root, refusal_line}
-use Rattle.script_run.specs.Runs.{Run, asked, is_done, loaded_at, rounds, run_of}
+use Rattle.script_run.specs.Refusals.{at_root, refusal_line, store_fault_line}
+use Rattle.script_run.specs.Answers.{status_of}
+use Rattle.script_run.specs.Rounds.{Giving, Service, flushed, is_due, loaded, rounds}
+use Rattle.script_run.specs.Runs.{Run, asked, begin_of, is_done}
 use Rattle.script_run.specs.Tool.{Writes, Fails}
 use Rattle.script_text.specs.declared.actor.Actor.{Actor}
 use Rattle.script_text.specs.declared.refused.Refusal.TheVariants as name
@@ -39,8 +48,16 @@ use Rattle.site_match.specs.declared.place.Place.{Place}
 most_input : MOST_INPUT ≡ 16777216
 most_input = refl
 
-statuses : (DONE ≡ 0) × (OTHER_WORDS ≡ 2) × (REFUSED ≡ 3) × (READ_FAULT ≡ 4) × (WRITE_FAULT ≡ 5) × (NO_MEMORY ≡ 7)
-statuses = (refl, refl, refl, refl, refl, refl)
+most_hosts : MOST_HOSTS ≡ 1099511627776
+most_hosts = refl
+
+statuses : (DONE ≡ 0) × (OTHER_WORDS ≡ 2) × (REFUSED ≡ 3) × (READ_FAULT ≡ 4) × (WRITE_FAULT ≡ 5) × (STORE_FAULT ≡ 6) × (NO_MEMORY ≡ 7)
+statuses = (refl, refl, refl, refl, refl, refl, refl)
+
+-- a report that tells of a fault has its status, and another none
+report_statuses : (status_of (Jar (Begun (codes "h.test")) ∷ Jar (Loaded (codes "h.test") []) ∷ []) ≡ 0)
+    × (status_of (Jar (Lost (codes "h.test")) ∷ []) ≡ 6) × (status_of (Jar (CommitLost 3) ∷ Jar Taken ∷ Jar (Acked 5) ∷ []) ≡ 6)
+report_statuses = (refl, refl, refl)
 
 -- ---- streams
 
@@ -81,9 +98,10 @@ refused_lines : (refusal_line (at_root name.TooLarge) ≡ codes "{\"path\":\"\",
     × (refusal_line (at_root name.BadSuffixes) ≡ codes "{\"path\":\"\",\"refused\":\"BadSuffixes\"}\n")
     × (refusal_line (at_root name.BadPlace) ≡ codes "{\"path\":\"\",\"refused\":\"BadPlace\"}\n")
     × (refusal_line (at_root name.Deadlock) ≡ codes "{\"path\":\"\",\"refused\":\"Deadlock\"}\n")
+    × (store_fault_line ≡ codes "{\"path\":\"\",\"refused\":\"StoreFault\"}\n")
     × (refusal_line (not_built (OfStep 3 12)) ≡ codes "{\"path\":\"/actors/3/steps/12\",\"refused\":\"NotBuilt\"}\n")
 unfolding digits serde_json_on_literals
-refused_lines = (refl, refl, refl, refl, refl, refl, refl, refl, refl)
+refused_lines = (refl, refl, refl, refl, refl, refl, refl, refl, refl, refl)
 
 -- ---- what isn't built
 
@@ -102,13 +120,12 @@ renders place = record { view = Some (place, None); steps = at_0 (Read None ∷ 
 abbrev script_of : List Actor → Script
 script_of actors = record { suffixes = []; start = 9; limit = 5; actors = actors }
 
--- the first is named: a step of the first actor, then a renderer, and not its own steps
+-- the first renderer is named, and steps on all cookies are built
 first_unbuilt : (place : Place)
-    → (unbuilt (script_of (doing (Post ∷ All ∷ Clear ∷ []) ∷ renders place ∷ [])) ≡ Some (OfStep 0 1))
-    × (unbuilt (script_of (doing (Post ∷ []) ∷ renders place ∷ doing (Clear ∷ []) ∷ [])) ≡ Some (OfActor 1))
-    × (unbuilt (script_of (doing [] ∷ doing (Clear ∷ []) ∷ renders place ∷ [])) ≡ Some (OfStep 1 0))
-    × (unbuilt (script_of (doing (Post ∷ Hear 0 1 ∷ []) ∷ [])) ≡ None)
-first_unbuilt place = (refl, refl, refl, refl)
+    → (unbuilt (script_of (doing (Post ∷ All ∷ Clear ∷ []) ∷ renders place ∷ renders place ∷ [])) ≡ Some (OfActor 1))
+    × (unbuilt (script_of (renders place ∷ doing (Clear ∷ []) ∷ [])) ≡ Some (OfActor 0))
+    × (unbuilt (script_of (doing (Post ∷ Hear 0 1 ∷ All ∷ Clear ∷ []) ∷ [])) ≡ None)
+first_unbuilt place = (refl, refl, refl)
 
 -- ---- what steps ask
 
@@ -117,6 +134,9 @@ delete_asks : ask_at [] 0 (Delete (codes ".www.foo.com") (codes "a") (codes "/p"
     ≡ Some (ask.Op (op.Delete (codes "foo.com")
     (record { host = codes ".www.foo.com"; name = codes "a"; path = codes "/p" })))
 delete_asks = refl
+
+all_and_clear : (ask_at [] 0 All ≡ Some (ask.Op op.All)) × (ask_at [] 0 Clear ≡ Some (ask.Op op.Clear))
+all_and_clear = (refl, refl)
 
 scopes : (fetch : FetchAsk) → (scope_of None (Some (codes "n")) ≡ scope.All)
     × (scope_of (Some fetch) None ≡ scope.Seen (request_of fetch))
@@ -138,7 +158,7 @@ places = (refl, refl, refl, refl)
 
 -- a run of one actor, whose callers have this many entries
 abbrev run_at : ℕ → Run
-run_at calls = run_of (record (opening []) { calls = calls }) [] ([] ∷ [])
+run_at calls = record (begin_of 1 []) { state = record (opening []) { calls = calls } }
 
 -- a script of one actor
 abbrev one : Script
@@ -163,19 +183,94 @@ refused_step : asked one 0 (run_at 4) 3 (Some (ask.Refused Control))
     ≡ record (run_at 4) { items = (Refused Control ∷ []) ∷ [] }
 refused_step = refl
 
--- the jar becomes whole once, at the moment that it is given
-becomes_whole : ((loaded_at 7 (run_at 0)).journal ≡ Jar (Whole 7) ∷ [])
-    × (loaded_at 8 (loaded_at 7 (run_at 0)) ≡ loaded_at 7 (run_at 0))
+-- a get of a key that isn't loaded makes it wanted, once, and then has neither item nor entry
+abbrev get : Request
+get = record { key = codes "b"; host = codes "b"; path = codes "/"; secure = true; script = false; context = Strict }
+
+abbrev unloaded : Run
+unloaded = begin_of 1 (codes "a" ∷ codes "b" ∷ [])
+
+abbrev asks_for_b : Run → Run
+asks_for_b r = asked one 0 r 3 (Some (ask.Op (op.Get get)))
+
+wants_once : ((asks_for_b unloaded).journal ≡ Jar (Want (codes "b")) ∷ []) × ((asks_for_b unloaded).items ≡ [] ∷ [])
+    × (asks_for_b (asks_for_b unloaded) ≡ asks_for_b unloaded)
+wants_once = (refl, refl, refl)
+
+-- ---- loads
+
+-- loads that give nothing, and loads that are lost
+abbrev gives_none : Giving
+gives_none key = Some []
+
+abbrev gives_lost : Giving
+gives_lost key = None
+
+-- what is wanted is loaded first, and then the least; a load that was lost is told to the get; and a jar that is loaded becomes
+-- whole once, at the moment that it is given
+loads_first : ((loaded 7 gives_none (asks_for_b unloaded)).journal
+    ≡ Jar (Want (codes "b")) ∷ Jar (Begun (codes "b")) ∷ Jar (Loaded (codes "b") []) ∷ [])
+    × ((loaded 7 gives_none unloaded).journal ≡ Jar (Begun (codes "a")) ∷ Jar (Loaded (codes "a") []) ∷ [])
+loads_first = (refl, refl)
+
+tells_lost : (asks_for_b (loaded 7 gives_lost (asks_for_b unloaded))).journal
+    ≡ Jar (Want (codes "b")) ∷ Jar (Begun (codes "b")) ∷ Jar (Lost (codes "b")) ∷ Call 0 3 (op.Get get) StoreFault ∷ []
+tells_lost = refl
+
+becomes_whole : ((loaded 7 gives_none (run_at 0)).journal ≡ Jar (Whole 7) ∷ [])
+    × (loaded 8 gives_none (loaded 7 gives_none (run_at 0)) ≡ loaded 7 gives_none (run_at 0))
 becomes_whole = (refl, refl)
 
+-- ---- commits
+
+-- a run in which one row changed, or that many
+abbrev id : ℕ → CookieId
+id n = record { host = n ∷ []; name = []; path = [] }
+
+abbrev drops : ℕ → List RowChange
+drops zero = []
+drops (suc n) = Drop (id n) ∷ drops n
+
+abbrev changed : List RowChange → Run
+changed changes = record (begin_of 0 []) {
+  state = record (opening []) { batches = record { touched = map change_id changes; out = None; lost = false } };
+  pending = changes;
+}
+
+-- with force one row is committed, and without it none; without a row nothing is
+due_by_force : (is_due true (changed (drops 1)) ≡ true) × (is_due false (changed (drops 1)) ≡ false) × (is_due true (changed []) ≡ false)
+due_by_force = (refl, refl, refl)
+
+-- five hundred and twelve are due without force
+due_at_512 : (is_due false (changed (drops 511)) ≡ false) × (is_due false (changed (drops 512)) ≡ true)
+due_at_512 = (refl, refl)
+
+-- a commit is acknowledged at the place of its taking, and one that is lost keeps its changes for the next
+abbrev lost_once : Run
+lost_once = flushed true false (changed (drops 1))
+
+commits : ((flushed true true (changed (drops 1))).journal ≡ Jar Taken ∷ Jar (Acked 1) ∷ [])
+    × ((flushed true true (changed (drops 1))).kept ≡ []) × (lost_once.journal ≡ Jar Taken ∷ Jar (CommitLost 1) ∷ [])
+    × (lost_once.kept ≡ drops 1) × (lost_once.pending ≡ [])
+    × ((flushed true true lost_once).journal ≡ Jar Taken ∷ Jar (CommitLost 1) ∷ Jar Taken ∷ Jar (Acked 3) ∷ [])
+commits = (refl, refl, refl, refl, refl, refl)
+
 -- ---- rounds
+
+-- a keeper that never fails, and has nothing to load
+abbrev serves : Service
+serves = record { gives = gives_none; commits = true }
 
 -- the first actor hears the second, which is behind it in the round: one round later
 abbrev hearing : Script
 hearing = script_of (doing (Hear 1 1 ∷ []) ∷ doing (Post ∷ []) ∷ [])
 
-hears_later : ((rounds hearing 1).items ≡ [] ∷ (At 1 ∷ []) ∷ []) × (is_done hearing (rounds hearing 1) ≡ false)
-    × ((rounds hearing 2).items ≡ (At 3 ∷ []) ∷ (At 1 ∷ []) ∷ []) × (is_done hearing (rounds hearing 2) ≡ true)
-    × ((rounds hearing 2).journal
+abbrev hearing_after : List Service → Run
+hearing_after services = rounds hearing [] services
+
+hears_later : ((hearing_after (serves ∷ [])).items ≡ [] ∷ (At 1 ∷ []) ∷ []) × (is_done hearing (hearing_after (serves ∷ [])) ≡ false)
+    × ((hearing_after (serves ∷ serves ∷ [])).items ≡ (At 3 ∷ []) ∷ (At 1 ∷ []) ∷ [])
+    × (is_done hearing (hearing_after (serves ∷ serves ∷ [])) ≡ true)
+    × ((hearing_after (serves ∷ serves ∷ [])).journal
     ≡ Call 1 0 op.Post (Posted 1) ∷ Jar (Whole 9) ∷ Call 0 0 (op.Hear 1 1) Heard ∷ [])
 hears_later = (refl, refl, refl, refl, refl)

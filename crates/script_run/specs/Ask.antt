@@ -59,14 +59,14 @@ scope_of None name = scope.All
 scope_of (Some fetch) None = scope.Seen (request_of fetch)
 scope_of (Some fetch) (Some name) = scope.Named (request_of fetch) name
 
--- what is asked at a moment. The steps that aren't built yet ask nothing
+-- what is asked at a moment. A renderer's steps, which aren't built yet, ask nothing
 abbrev pub ask_at : List SuffixRule → ℕ → What → Option Ask
 ask_at rules now (Set fetch line) = Some (ask_of_line rules fetch now (read_line line))
 ask_at rules now (Get fetch) = Some (ask.Op (op.Get (request_of fetch)))
 ask_at rules now (Delete host name path) =
     Some (ask.Op (op.Delete (key_of rules (undotted host)) (id_of_texts host name path)))
-ask_at rules now All = None
-ask_at rules now Clear = None
+ask_at rules now All = Some (ask.Op op.All)
+ask_at rules now Clear = Some (ask.Op op.Clear)
 ask_at rules now (Listen fetch name) = Some (ask.Op (op.Listen (scope_of fetch name)))
 ask_at rules now (Changes listener) = Some (ask.Op (op.Changes listener))
 ask_at rules now (Unlisten listener) = Some (ask.Op (op.Unlisten listener))

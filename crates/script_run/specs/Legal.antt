@@ -1,12 +1,16 @@
 -- The history of a script is one that the jar of one thread can have made, the items name its calls,
--- and there is one alone. This jar's own rule: docs/DEFINITIONS.md.
+-- and over rows that are told there is one alone. This jar's own rule: docs/DEFINITIONS.md.
 use Rattle.std.specs.Prelude.{ℕ, ◌≡◌, ◌<◌, ◌≤◌, ◌+◌, ◌==◌, List, [], ◌∷◌, ◌++◌, length, Option, None, Some, if◌then◌else◌}
+use Rattle.std.specs.List.Sorted.{IsStrictlySortedBy}
 use Rattle.jar_types.specs.declared.entry.Entry.{Entry}
 use Rattle.jar_types.specs.declared.entry.Entry.TheVariants.{Call, Jar}
 use Rattle.jar_types.specs.declared.op.Op.{Op}
 use Rattle.jar_types.specs.declared.op.Reply.{Reply}
-use Rattle.jar_types.specs.Journals.{Rules, IsLegal}
-use Rattle.public_suffix.specs.Suffix.{key_of}
+use Rattle.jar_types.specs.declared.row.Row.{Row}
+use Rattle.jar_types.specs.Ids.{text_cmp}
+use Rattle.jar_types.specs.Journals.{IsLegal}
+use Rattle.jar_types.specs.RowChanges.{RowsRise}
+use Rattle.jar_types.specs.Stored.{hosts_of}
 use Rattle.run_report.specs.declared.item.Item.{Item}
 use Rattle.run_report.specs.declared.item.Item.TheVariants.{At, Refused}
 use Rattle.run_report.specs.declared.refusal_name.RefusalName.TheVariants.{Spent}
@@ -18,23 +22,14 @@ use Rattle.script_run.specs.declared.ask.Ask.{Ask}
 use Rattle.script_run.specs.declared.ask.Ask.TheVariants as ask
 use Rattle.script_run.specs.Ask.{ask_of}
 use Rattle.script_run.specs.Built.{IsBuilt}
-use Rattle.script_run.specs.Runs.{Run, Ends, items_at}
+use Rattle.script_run.specs.Rounds.{Ends, EndsOver, Over, rules_of}
+use Rattle.script_run.specs.Runs.{Run, items_at}
 
--- the rules of a script's run without stored cookies: its actors are the callers, who may make as many
--- entries as its limit says, it starts at its start, and keys are by its suffix rules
-abbrev pub rules_of : Script → Rules
-rules_of script = record {
-  hosts = [];
-  callers = length script.actors;
-  limit = script.limit;
-  start = script.start;
-  key_of = key_of script.suffixes;
-}
-
--- the journal of a script is legal
+-- the journal of a script over hosts is legal
 abbrev pub SerialJournalsAreLegal : Type 0
 SerialJournalsAreLegal =
-    (script : Script) (run : Run) → IsAdmitted script → Ends script run → IsLegal (rules_of script) run.journal
+    (script : Script) (hosts : List (List ℕ)) (run : Run) → IsAdmitted script → IsStrictlySortedBy text_cmp hosts → Ends script hosts run
+    → IsLegal (rules_of script hosts) run.journal
 
 -- the places of a caller's entries, where the first entry of the list has this place
 abbrev pub call_places : ℕ → ℕ → List Entry → List ℕ
@@ -52,7 +47,7 @@ named_places (Refused name ∷ items) = named_places items
 -- the items of an actor name its entries, each once and in their order
 abbrev pub ItemsNameTheCalls : Type 0
 ItemsNameTheCalls =
-    (script : Script) (run : Run) (a : ℕ) → Ends script run → a < length script.actors
+    (script : Script) (hosts : List (List ℕ)) (run : Run) (a : ℕ) → Ends script hosts run → a < length script.actors
     → named_places (items_at run a) ≡ call_places a 1 run.journal
 
 -- how many entries of a journal callers have
@@ -92,9 +87,13 @@ FitEach script journal a (step ∷ steps) (item ∷ items) =
 -- each actor has one item a step, and each fits its step
 abbrev pub ItemsFitTheSteps : Type 0
 ItemsFitTheSteps =
-    (script : Script) (run : Run) (a : ℕ) → IsAdmitted script → IsBuilt script → Ends script run → a < length script.actors
+    (script : Script) (hosts : List (List ℕ)) (run : Run) (a : ℕ) → IsAdmitted script → IsBuilt script → Ends script hosts run → a < length script.actors
     → FitEach script run.journal a (steps_at script.actors a) (items_at run a)
 
--- a script ends in one way alone
+-- over the rows that a keeper holds, which never fails, a script ends in one way alone
 abbrev pub RunsAreOne : Type 0
-RunsAreOne = (script : Script) (run other : Run) → Ends script run → Ends script other → run ≡ other
+RunsAreOne = (script : Script) (rows : List Row) (end other : Over) → EndsOver script rows end → EndsOver script rows other → end ≡ other
+
+-- such an end is one over the hosts of the rows
+abbrev pub RunsOverRows : Type 0
+RunsOverRows = (script : Script) (rows : List Row) (end : Over) → RowsRise rows → EndsOver script rows end → Ends script (hosts_of rows) end.run

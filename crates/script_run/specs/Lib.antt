@@ -1,7 +1,12 @@
 pub mod Ask
 pub mod Built
 pub mod Runs
+pub mod Rounds
+pub mod Kept
+pub mod Faults
+pub mod Services
 pub mod Legal
+pub mod StoredRuns
 pub mod Listening
 pub mod Refusals
 pub mod Answers

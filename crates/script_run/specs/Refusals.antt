@@ -32,3 +32,7 @@ refusal_data r =
 -- the line of a refusal, which a newline ends
 abbrev pub refusal_line : Refused → List ℕ
 refusal_line r = compact_text (refusal_data r) ++ (10 ∷ [])
+
+-- the line of a keeper that failed before anything was run
+abbrev pub store_fault_line : List ℕ
+store_fault_line = codes "{\"path\":\"\",\"refused\":\"StoreFault\"}\n"

@@ -34,6 +34,8 @@ pub fn ask_of(alloc: Global, suffixes: &Suffixes, step: &Step) -> Result<Ask, No
         What::Set { ask, line } => ask_of_text(alloc, suffixes, ask, step.now, line),
         What::Get { ask } => Ok(Ask::Op(Op::Get(request_of(alloc, ask)?))),
         What::Delete { host, name, path } => delete_of(alloc, suffixes, host, name, path),
+        What::All => Ok(Ask::Op(Op::All)),
+        What::Clear => Ok(Ask::Op(Op::Clear)),
         What::Listen { ask, name } => Ok(Ask::Op(Op::Listen(scope_of(alloc, ask, name)?))),
         What::Changes { listener } => Ok(Ask::Op(Op::Changes(*listener))),
         What::Unlisten { listener } => Ok(Ask::Op(Op::Unlisten(*listener))),
@@ -42,7 +44,7 @@ pub fn ask_of(alloc: Global, suffixes: &Suffixes, step: &Step) -> Result<Ask, No
             actor: *actor,
             n: *n,
         })),
-        What::All | What::Clear | What::Read { .. } | What::Write { .. } => unreachable!(),
+        What::Read { .. } | What::Write { .. } => unreachable!(),
     }
 }
 

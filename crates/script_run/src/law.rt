@@ -1,9 +1,9 @@
 //! Laws of the definitions.
 
 ghost use Rattle.script_run.specs.Listening.{ListenersAreToldFirst, ListenersAreToldOn};
-ghost use Rattle.script_run.specs.Legal.{ItemsFitTheSteps, ItemsNameTheCalls, RunsAreOne, SerialJournalsAreLegal};
+ghost use Rattle.script_run.specs.Legal.{ItemsFitTheSteps, ItemsNameTheCalls, RunsAreOne, RunsOverRows, SerialJournalsAreLegal};
 
-/// The journal of a script is legal by its suffix rules: each reply in it is that of the jar of one
+/// The journal of a script over hosts is legal by its suffix rules: each reply in it is that of the jar of one
 /// thread, and each entry may stand where it stands.
 pub fn serial_journals_are_legal()
     ensures { SerialJournalsAreLegal }
@@ -20,10 +20,15 @@ pub fn items_fit_the_steps()
     ensures { ItemsFitTheSteps }
 {}
 
-/// A script ends in one way alone.
-#[tactic(auto, using(crate::proofs::RunLemmas::runs_are_one))]
+/// Over the rows that a keeper holds, which never fails, a script ends in one way alone.
 pub fn runs_are_one()
     ensures { RunsAreOne }
+{}
+
+/// Such an end is one over the hosts of the rows, so that all else holds of it.
+#[tactic(auto, using(crate::proofs::OverLemmas::runs_over_rows))]
+pub fn runs_over_rows()
+    ensures { RunsOverRows }
 {}
 
 /// In a legal journal the first answer to a listener has just the changes that its scope admits, of

@@ -4,21 +4,28 @@
 mod answer;
 mod ask;
 mod built;
+mod commits;
 mod law;
+mod loads;
 mod refusal_line;
+mod rounds;
 mod run;
+mod run_law;
 mod status;
+mod timed;
 mod tool;
+mod tries;
 
-pub use answer::{Answer, answer_of};
+pub use answer::{Answer, NoAnswer, answer_of};
 pub use built::unbuilt;
 pub use law::{
     items_fit_the_steps, items_name_the_calls, listeners_are_told_first, listeners_are_told_on,
-    runs_are_one, serial_journals_are_legal,
+    runs_are_one, runs_over_rows, serial_journals_are_legal,
 };
-pub use run::serial;
+pub use rounds::{MOST_HOSTS, Ran, RunFail, RunRefusal, serial};
+pub use run_law::{stored_runs_are_eager, stored_runs_are_honest, stored_runs_are_kept};
 pub use run_report::{Item, ItemLists, Items, RefusalName, Report};
-pub use tool::{MOST_INPUT, serial_tool};
+pub use tool::{MOST_INPUT, Outcome, serial_tool};
 
 #[cfg(test)]
 mod tests;

@@ -9,6 +9,9 @@ use script_text::{Refusal, Refused};
 use serde_json::{Value, json};
 use std::alloc::{AllocError, Global};
 
+/// The text of the line of a keeper that failed.
+const STORE_FAULT_LINE: &str = "{\"path\":\"\",\"refused\":\"StoreFault\"}\n";
+
 /// The line of a refusal, which a newline ends.
 pub fn refusal_line(alloc: Global, refused: &Refused) -> Result<Vec<u8>, NoMemory>
     ensures { IfOk result (λ text. text.items ≡ spec.refusal_line refused.entry.now) }
@@ -17,6 +20,13 @@ pub fn refusal_line(alloc: Global, refused: &Refused) -> Result<Vec<u8>, NoMemor
     let mut text = value.to_vec(alloc)?;
     text.push(b'\n')?;
     Ok(text)
+}
+
+/// The line of a keeper that failed before anything was run.
+pub fn store_fault_line(alloc: Global) -> Result<Vec<u8>, NoMemory>
+    ensures { IfOk result (λ text. text.items ≡ spec.store_fault_line) }
+{
+    Ok(Vec::from_slice(alloc, STORE_FAULT_LINE.as_bytes())?)
 }
 
 /// A refusal as JSON.

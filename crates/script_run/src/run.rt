@@ -1,76 +1,247 @@
-//! A script, run on one thread in rounds.
+//! A run: the core of the jar, its journal, the items of the actors, and the changed rows that wait.
 
-ghost use Rattle.std.specs.Prelude.{◌≡◌, ◌+◌, ◌++◌, ◌∷◌, ◌-◌, ◌<◌, ◌≤◌, ◌^◌, ◌==◌, [], true, IfOk, OnOk, length, map, nat_le, is_none, replicate, slice_get, slice_index_or, slice_set, option_copied};
-ghost use Rattle.jar_types.specs.Posts.{op_wanting, posts_wanting};
-ghost use Rattle.jar_types.specs.Steps.{OwnMayStand};
-ghost use Rattle.script_text.specs.Admitted.{IsAdmitted};
-ghost use Rattle.script_text.specs.Deadlocks.{steps_at, steps_left};
-ghost use Rattle.script_text.specs.declared.actor.TheConstants.{MOST_ACTORS};
-ghost use Rattle.script_run.specs.Ask as asks;
-ghost use Rattle.script_run.specs.Built.{IsBuilt, is_built};
+ghost use Rattle.std.specs.Prelude.{◌≡◌, ◌+◌, ◌++◌, ◌∷◌, ◌-◌, ◌<◌, ◌≤◌, ◌^◌, [], None, Some, false, true, IfOk, IfErr, OnErr, OnOk, length, replicate};
+ghost use Rattle.std.specs.List.Sorted.{IsStrictlySortedBy};
+ghost use Rattle.jar_types.specs.Ids.{text_cmp};
+ghost use Rattle.jar_types.specs.Steps.{OwnMayStand, after, entry_of, own_may_stand, rows_at};
+ghost use Rattle.jar_types.specs.Waits.{waits};
+ghost use Rattle.jar_types.specs.declared.entry.Event.TheVariants.{Jar as JarEvent};
+ghost use Rattle.jar_types.specs.declared.entry.Own.TheVariants.{Taken};
+ghost use Rattle.script_run.specs.Kept.{IsRefused, is_taking, takes_batch};
+ghost use Rattle.script_run.specs.Rounds as rounds;
+ghost use Rattle.script_run.specs.Rounds.{is_due};
 ghost use Rattle.script_run.specs.Runs as spec;
 
-use crate::ask::{Ask, ask_of};
-use jar_types::{CoreRefusal, Event, JarCore, Journal, Moment, NoMemory, Op, Own, Texts};
-use plain_jar::PlainJar;
-use run_report::{Item, ItemLists, Items, RefusalName, Report};
-use script_text::{Script, Step};
+use commit_batches::{Pending, overlay};
+use jar_types::{CoreRefusal, Event, JarCore, Journal, NoMemory, Own, RowChanges, Texts};
+use run_report::{Item, Items};
 use std::alloc::Global;
+use std::marker::Model;
 
-/// The report of a script: in each round each actor in order tries its next step, and then the jar
-/// loads; the rounds end behind the first in which no step is left.
-///
-/// Only want of memory refuses. This jar's own rule: docs/DEFINITIONS.md.
-pub fn serial(alloc: Global, script: &Script) -> Result<Report, NoMemory>
-    requires admitted { IsAdmitted script.now }
-    requires built { IsBuilt script.now }
-    ensures hosts { IfOk result (λ r. r.hosts ≡ []) }
-    ensures history { IfOk result (λ r. spec.IsHistory script.entry.now r.items r.journal.list) }
-{
-    let run = last_run::<PlainJar>(alloc, script)?;
-    Ok(Report {
-        hosts: Texts::new(alloc),
-        items: ItemLists::from_vec(run.items),
-        journal: run.journal,
-    })
-}
-
-/// A run so far: a core, how many entries its callers have, the journal, and for each actor an item
-/// for each step that it has done.
+/// A run so far: a core, how many entries its callers have, the journal, for each actor an item for
+/// each step that it has done, the rows that changed since a batch was taken, and those that were
+/// taken and aren't committed.
 #[derive(Drop)]
-struct Run<C: JarCore + Drop> {
+pub struct Run<C: JarCore + Drop> {
     core: C,
     calls: u64,
     journal: Journal,
     items: Vec<Items>,
+    pending: Pending,
+    kept: RowChanges,
 }
 
-/// The run of a script behind its last round.
-fn last_run<C: JarCore + Drop>(alloc: Global, script: &Script) -> Result<Run<C>, NoMemory>
-    requires admitted { IsAdmitted script.now }
-    requires built { IsBuilt script.now }
-    ensures { IfOk result (λ r. spec.IsHistory script.entry.now r.items.items r.journal.list) }
-{
-    let mut run = begin::<C>(alloc, script)?;
-    one_round(alloc, &mut run, script)?;
-    'rounds: while !is_done(script, run.items.as_slice()) {
-        one_round(alloc, &mut run, script)?;
+impl<C: JarCore + Drop> Model for Run<C> {
+    ghost use Rattle.script_run.specs.Runs.{Run as RunData};
+    ghost use Rattle.script_run.specs.Kept.{IsKept};
+
+    ghost Value = { RunData };
+
+    ghost view = { λ r. record { state = C.state r.core; journal = r.journal.list; items = r.items.items; pending = r.pending.list; kept = r.kept } };
+
+    ghost invariant = { λ r. IsKept r.calls (record { state = C.state r.core; journal = r.journal.list; items = r.items.items; pending = r.pending.list; kept = r.kept }) };
+}
+
+impl<C: JarCore + Drop> Run<C> {
+    /// The run of so many actors before its first round, where these keys have stored cookies.
+    #[tactic(auto, using(crate::proofs::KeptLemmas::kept_begin))]
+    pub fn begin(alloc: Global, actors: usize, keys: Texts) -> Result<Run<C>, NoMemory>
+        requires { IsStrictlySortedBy text_cmp keys }
+        ensures { IfOk result (λ r. r ≡ spec.begin_of actors keys) }
+    {
+        Ok(Run {
+            core: C::fresh(alloc, keys)?,
+            calls: 0,
+            journal: Journal::new(alloc),
+            items: no_items(alloc, actors)?,
+            pending: Pending::fresh(alloc),
+            kept: RowChanges::new(alloc),
+        })
     }
-    Ok(run)
+
+    /// The core of the jar.
+    pub fn core(&self) -> &C
+        ensures { C.state result.now ≡ self.now.state }
+    {
+        &self.core
+    }
+
+    /// How many entries callers have.
+    pub fn calls(&self) -> u64
+        ensures { result ≡ self.now.state.calls }
+    {
+        self.calls
+    }
+
+    /// How many entries there are.
+    pub fn len(&self) -> u64
+        ensures { result ≡ length self.now.journal }
+    {
+        self.journal.len() as u64
+    }
+
+    /// The items of the actors.
+    pub fn items(&self) -> &[Items]
+        ensures { result.now ≡ self.now.items }
+    {
+        self.items.as_slice()
+    }
+
+    /// The journal and the items of a run that has ended.
+    pub fn into_parts(self) -> (Journal, Vec<Items>)
+        ensures { (result.0.list ≡ self.journal) × (result.1.items ≡ self.items) }
+    {
+        (self.journal, self.items)
+    }
+
+    /// The entry of an event stands in the journal, the core takes its step, and its changes of
+    /// rows wait; unless the event waits itself, or memory is wanting: then all stays.
+    pub fn happen(&mut self, alloc: Global, event: &Event) -> Result<(), CoreRefusal>
+        requires room { self.old.state.entries < 2 ^ 62 }
+        requires stands { OwnMayStand self.old.state event.now }
+        requires leaves { takes_batch event.now ≡ false }
+
+        ensures happened { OnOk result (self.new ≡ spec.happened self.old event.now) }
+        ensures there { OnOk result (waits self.old.state event.now ≡ None) }
+
+        ensures err { IfErr result (IsRefused self.old.state event.now) }
+        ensures same { OnErr result (self.new ≡ self.old) }
+    {
+        let rows = enter(
+            alloc,
+            &mut self.core,
+            &mut self.journal,
+            &mut self.pending,
+            event,
+        )?;
+        self.pending.add(rows);
+        if let Event::Call { .. } = event {
+            self.calls += 1;
+        }
+        Ok(())
+    }
+
+    /// The jar does this itself, where it may.
+    pub fn did_if_may(&mut self, alloc: Global, own: Own) -> Result<(), NoMemory>
+        requires room { self.old.state.entries < 2 ^ 62 }
+        requires leaves { is_taking own ≡ false }
+        ensures { OnOk result (self.new ≡ spec.did_if_may self.old own) }
+    {
+        if self.core.stands(&own) {
+            self.do_own(alloc, own)?;
+        }
+        Ok(())
+    }
+
+    /// The jar does this itself.
+    pub fn do_own(&mut self, alloc: Global, own: Own) -> Result<(), NoMemory>
+        requires room { self.old.state.entries < 2 ^ 62 }
+        requires stands { OwnMayStand self.old.state (JarEvent own) }
+        requires leaves { is_taking own ≡ false }
+        ensures { OnOk result (self.new ≡ spec.happened self.old (JarEvent own)) }
+    {
+        match self.happen(alloc, &Event::Jar(own)) {
+            Ok(()) => Ok(()),
+            Err(_) => Err(NoMemory),
+        }
+    }
+
+    /// Notes the item of an actor's next step.
+    #[tactic(auto, using(crate::proofs::KeptLemmas::kept_noted))]
+    pub fn note(&mut self, a: usize, item: Item) -> Result<(), NoMemory>
+        requires { a < length self.old.items }
+        ensures { OnOk result (self.new ≡ spec.noted a self.old item) }
+    {
+        self.items[a].push(item)
+    }
+
+    /// The changed rows that wait become a batch, with those that were taken before and aren't
+    /// committed, and are kept till it is committed.
+    pub fn take(&mut self, alloc: Global) -> Result<(), NoMemory>
+        requires room { self.old.state.entries < 2 ^ 62 }
+        requires stands { own_may_stand self.old.state Taken ≡ true }
+        ensures taken { OnOk result (self.new ≡ rounds.taken self.old) }
+        ensures out { OnOk result (self.new.state.batches.out ≡ Some (length self.new.journal)) }
+    {
+        let batch = overlay(alloc, &self.kept, &self.pending)?;
+        let event = Event::Jar(Own::Taken);
+        match enter(
+            alloc,
+            &mut self.core,
+            &mut self.journal,
+            &mut self.pending,
+            &event,
+        ) {
+            Ok(_) => {
+                self.kept = batch;
+                drop(self.pending.take());
+                Ok(())
+            }
+            Err(_) => Err(NoMemory),
+        }
+    }
+
+    /// The batch that was taken and isn't committed.
+    pub fn batch(&self) -> &RowChanges
+        ensures { result.now ≡ self.now.kept }
+    {
+        &self.kept
+    }
+
+    /// Whether a batch is due.
+    pub fn is_due(&self, force: bool) -> bool
+        ensures { result ≡ is_due force self.now }
+    {
+        self.core.stands(&Own::Taken) && (force || self.pending.due())
+    }
+
+    /// The batch that was taken at the last entry's place was committed, or it was lost and is kept.
+    pub fn end_batch(&mut self, alloc: Global, commits: bool) -> Result<(), NoMemory>
+        requires room { self.old.state.entries < 2 ^ 62 }
+        requires out { self.old.state.batches.out ≡ Some (length self.old.journal) }
+        ensures { OnOk result (self.new ≡ rounds.ended commits (length self.old.journal) self.old) }
+    {
+        let place = self.journal.len() as u64;
+        if !commits {
+            return self.do_own(alloc, Own::CommitLost(place));
+        }
+        self.do_own(alloc, Own::Acked(place))?;
+        self.kept = RowChanges::new(alloc);
+        Ok(())
+    }
 }
 
-/// A run before its first round.
-fn begin<C: JarCore + Drop>(alloc: Global, script: &Script) -> Result<Run<C>, NoMemory>
-    ensures begins { IfOk result (λ r. spec.run_of (C.state r.core) r.journal.list r.items.items
-        ≡ spec.begin script.now) }
-    ensures calls { IfOk result (λ r. r.calls ≡ (C.state r.core).calls) }
+/// The entry of an event stands in the journal, and the core takes its step; for its changes of
+/// rows, which are the answer, there is room among those that wait. Unless the event waits itself,
+/// or memory is wanting: then all stays.
+fn enter<C: JarCore + Drop>(
+    alloc: Global,
+    core: &mut C,
+    journal: &mut Journal,
+    pending: &mut Pending,
+    event: &Event,
+) -> Result<RowChanges, CoreRefusal>
+    requires room { (C.state core.old).entries < 2 ^ 64 - 1 }
+    requires stands { OwnMayStand (C.state core.old) event.now }
+
+    ensures step { OnOk result (C.state core.new ≡ after (C.state core.old) event.now) }
+    ensures entry { OnOk result (journal.new.list
+        ≡ journal.old.list ++ entry_of (C.state core.old) event.now ∷ []) }
+    ensures rows { IfOk result (λ rows. (rows ≡ rows_at (C.state core.old) event.now)
+        × (length rows ≤ pending.new.spare)) }
+    ensures there { OnOk result (waits (C.state core.old) event.now ≡ None) }
+
+    ensures err { IfErr result (IsRefused (C.state core.old) event.now) }
+    ensures same { OnErr result ((C.state core.new ≡ C.state core.old)
+        × (journal.new.list ≡ journal.old.list)) }
+    ensures waiting { pending.new.list ≡ pending.old.list }
 {
-    Ok(Run {
-        core: C::fresh(alloc, Texts::new(alloc))?,
-        calls: 0,
-        journal: Journal::new(alloc),
-        items: no_items(alloc, script.actors.len())?,
-    })
+    journal.reserve(1)?;
+    let prepared = core.prepare(alloc, event)?;
+    pending.reserve(prepared.rows.len())?;
+    let (entry, rows) = core.settle(prepared);
+    journal.add(entry);
+    Ok(rows)
 }
 
 /// That many lists without an item.
@@ -82,234 +253,4 @@ fn no_items(alloc: Global, count: usize) -> Result<Vec<Items>, NoMemory>
         lists.push(Items::new(alloc))?;
     }
     Ok(lists)
-}
-
-/// Whether no step of a script is left, where actors have these items.
-fn is_done(script: &Script, items: &[Items]) -> bool
-    requires { length items.now ≡ length script.now.actors }
-    ensures { result ≡ (steps_left script.now.actors (map length items.now) == 0) }
-{
-    for (a, actor) in script.actors.as_slice().iter().enumerate() {
-        if items[a].len() < actor.steps.len() {
-            return false;
-        }
-    }
-    true
-}
-
-/// Each actor in order tries its next step, and then the jar loads.
-fn one_round<C: JarCore + Drop>(
-    alloc: Global,
-    run: &mut Run<C>,
-    script: &Script,
-) -> Result<(), NoMemory>
-    requires room { (C.state run.old.core).entries < 2 ^ 62 }
-    requires calls { run.old.calls ≡ (C.state run.old.core).calls }
-    requires many { length run.old.items.items ≡ length script.now.actors }
-    requires few { length script.now.actors ≤ MOST_ACTORS }
-    requires built { IsBuilt script.now }
-    ensures round { OnOk result (spec.run_of (C.state run.new.core) run.new.journal.list run.new.items.items
-        ≡ spec.round script.entry.now
-        (spec.run_of (C.state run.old.core) run.old.journal.list run.old.items.items)) }
-    ensures calls { OnOk result (run.new.calls ≡ (C.state run.new.core).calls) }
-{
-    'actors: for a in 0..script.actors.len() {
-        try_next(alloc, run, script, a)?;
-    }
-    load(alloc, run, script.start)
-}
-
-/// An actor tries its next step, where one is left.
-#[tactic(auto, using(crate::proofs::BuiltLemmas::built_step))]
-fn try_next<C: JarCore + Drop>(
-    alloc: Global,
-    run: &mut Run<C>,
-    script: &Script,
-    a: usize,
-) -> Result<(), NoMemory>
-    requires room { (C.state run.old.core).entries < 2 ^ 63 }
-    requires calls { run.old.calls ≡ (C.state run.old.core).calls }
-    requires many { length run.old.items.items ≡ length script.now.actors }
-    requires actor { a < length script.now.actors }
-    requires few { length script.now.actors ≤ MOST_ACTORS }
-    requires built { IsBuilt script.now }
-    ensures tried { OnOk result (spec.run_of (C.state run.new.core) run.new.journal.list run.new.items.items
-        ≡ spec.tried script.entry.now a
-        (spec.run_of (C.state run.old.core) run.old.journal.list run.old.items.items)) }
-    ensures calls { OnOk result (run.new.calls ≡ (C.state run.new.core).calls) }
-    ensures entries { OnOk result ((C.state run.new.core).entries ≤ (C.state run.old.core).entries + 1) }
-    ensures many { OnOk result (length run.new.items.items ≡ length run.old.items.items) }
-{
-    match next_step(script, run.items.as_slice(), a) {
-        Some(step) => try_step(alloc, run, script, a, step),
-        None => Ok(()),
-    }
-}
-
-/// The next step of an actor, where one is left.
-fn next_step<'s>(script: &'s Script, items: &[Items], a: usize) -> Option<&'s Step>
-    requires { a < length items.now }
-    ensures { option_copied result ≡ slice_get (steps_at script.now.actors a)
-        (length (slice_index_or items.now a [])) }
-{
-    match script.actors.get(a) {
-        Some(actor) => actor.steps.get(items[a].len()),
-        None => None,
-    }
-}
-
-/// An actor tries a step by the suffix rules.
-fn try_step<C: JarCore + Drop>(
-    alloc: Global,
-    run: &mut Run<C>,
-    script: &Script,
-    a: usize,
-    step: &Step,
-) -> Result<(), NoMemory>
-    requires room { (C.state run.old.core).entries < 2 ^ 63 }
-    requires calls { run.old.calls ≡ (C.state run.old.core).calls }
-    requires actor { a < length run.old.items.items }
-    requires few { a < 2 ^ 32 }
-    requires built { is_built step.now.what ≡ true }
-    ensures asked { OnOk result (spec.run_of (C.state run.new.core) run.new.journal.list run.new.items.items
-        ≡ spec.asked script.entry.now a
-        (spec.run_of (C.state run.old.core) run.old.journal.list run.old.items.items)
-        step.entry.now.now (asks.ask_of script.now.suffixes step.entry.now)) }
-    ensures calls { OnOk result (run.new.calls ≡ (C.state run.new.core).calls) }
-    ensures entries { OnOk result ((C.state run.new.core).entries ≤ (C.state run.old.core).entries + 1) }
-    ensures many { OnOk result (length run.new.items.items ≡ length run.old.items.items) }
-{
-    match ask_of(alloc, &script.suffixes, step)? {
-        Ask::Op(op) => call_within(alloc, run, script.limit, a, step.now, op),
-        Ask::Refused(name) => note(&mut run.items, a, Item::Refused { name }),
-    }
-}
-
-/// An actor makes a call, unless callers have as many entries as they may.
-fn call_within<C: JarCore + Drop>(
-    alloc: Global,
-    run: &mut Run<C>,
-    limit: u64,
-    a: usize,
-    now: Moment,
-    op: Op,
-) -> Result<(), NoMemory>
-    requires room { (C.state run.old.core).entries < 2 ^ 63 }
-    requires calls { run.old.calls ≡ (C.state run.old.core).calls }
-    requires actor { a < length run.old.items.items }
-    requires few { a < 2 ^ 32 }
-    ensures called { OnOk result (spec.run_of (C.state run.new.core) run.new.journal.list run.new.items.items
-        ≡ spec.called_within (nat_le limit (C.state run.old.core).calls) a
-        (spec.run_of (C.state run.old.core) run.old.journal.list run.old.items.items) now op) }
-    ensures calls { OnOk result (run.new.calls ≡ (C.state run.new.core).calls) }
-    ensures entries { OnOk result ((C.state run.new.core).entries ≤ (C.state run.old.core).entries + 1) }
-    ensures many { OnOk result (length run.new.items.items ≡ length run.old.items.items) }
-{
-    if run.calls >= limit {
-        let name = RefusalName::Spent;
-        return note(&mut run.items, a, Item::Refused { name });
-    }
-    call(alloc, run, a, now, op)
-}
-
-/// An actor makes a call, unless it waits for more posts than were made.
-#[tactic(auto, using(crate::proofs::SameLemmas::call_calls, crate::proofs::SameLemmas::call_entries))]
-fn call<C: JarCore + Drop>(
-    alloc: Global,
-    run: &mut Run<C>,
-    a: usize,
-    now: Moment,
-    op: Op,
-) -> Result<(), NoMemory>
-    requires room { (C.state run.old.core).entries < 2 ^ 63 }
-    requires calls { run.old.calls ≡ (C.state run.old.core).calls }
-    requires some { run.old.calls < 2 ^ 64 - 1 }
-    requires actor { a < length run.old.items.items }
-    requires few { a < 2 ^ 32 }
-    ensures called { OnOk result (spec.run_of (C.state run.new.core) run.new.journal.list run.new.items.items
-        ≡ spec.called_where (op_wanting (C.state run.old.core) op) a
-        (spec.run_of (C.state run.old.core) run.old.journal.list run.old.items.items) now op) }
-    ensures calls { OnOk result (run.new.calls ≡ (C.state run.new.core).calls) }
-    ensures entries { OnOk result ((C.state run.new.core).entries ≤ (C.state run.old.core).entries + 1) }
-    ensures many { OnOk result (length run.new.items.items ≡ length run.old.items.items) }
-{
-    let event = Event::Call {
-        caller: a as u32,
-        now,
-        op,
-    };
-    if !happen(alloc, run, &event)? {
-        return Ok(());
-    }
-    name_call(run, a)?;
-    Ok(())
-}
-
-/// Notes that the last entry is a call of an actor, whose item names its place.
-fn name_call<C: JarCore + Drop>(run: &mut Run<C>, a: usize) -> Result<(), NoMemory>
-    requires some { run.old.calls < 2 ^ 64 - 1 }
-    requires actor { a < length run.old.items.items }
-    ensures noted { OnOk result (run.new.items.items
-        ≡ slice_set run.old.items.items a (slice_index_or run.old.items.items a []
-        ++ Item.At (length run.old.journal.list) ∷ [])) }
-    ensures calls { run.new.calls ≡ run.old.calls + 1 }
-    ensures core { run.new.core ≡ run.old.core }
-    ensures journal { run.new.journal ≡ run.old.journal }
-{
-    run.calls += 1;
-    let place = run.journal.len() as u64;
-    note(&mut run.items, a, Item::At { place })
-}
-
-/// The jar loads: it becomes whole at a moment, where it may.
-fn load<C: JarCore + Drop>(alloc: Global, run: &mut Run<C>, start: Moment) -> Result<(), NoMemory>
-    requires room { (C.state run.old.core).entries < 2 ^ 64 - 1 }
-    requires calls { run.old.calls ≡ (C.state run.old.core).calls }
-    ensures loaded { OnOk result (spec.run_of (C.state run.new.core) run.new.journal.list run.new.items.items
-        ≡ spec.loaded_at start
-        (spec.run_of (C.state run.old.core) run.old.journal.list run.old.items.items)) }
-    ensures calls { OnOk result (run.new.calls ≡ (C.state run.new.core).calls) }
-{
-    let whole = Own::Whole(start);
-    if run.core.stands(&whole) {
-        happen(alloc, run, &Event::Jar(whole))?;
-    }
-    Ok(())
-}
-
-/// Adds the entry of an event to the journal, and the core takes its step, unless the event waits for
-/// more posts than were made. Whether it happened.
-#[tactic(auto, using(jar_types::proofs::JournalLemmas::event_back))]
-fn happen<C: JarCore + Drop>(
-    alloc: Global,
-    run: &mut Run<C>,
-    event: &Event,
-) -> Result<bool, NoMemory>
-    requires room { (C.state run.old.core).entries < 2 ^ 64 - 1 }
-    requires stands { OwnMayStand (C.state run.old.core) event.now }
-    ensures happened { IfOk result (λ is. spec.run_of (C.state run.new.core) run.new.journal.list run.new.items.items
-        ≡ spec.happened_where is
-        (spec.run_of (C.state run.old.core) run.old.journal.list run.old.items.items) event.now) }
-    ensures waits { IfOk result (λ is. is
-        ≡ is_none (posts_wanting (C.state run.old.core) event.now)) }
-    ensures calls { run.new.calls ≡ run.old.calls }
-{
-    run.journal.reserve(1)?;
-    match run.core.prepare(alloc, event) {
-        Ok(prepared) => {
-            run.journal.add(run.core.settle(prepared));
-            Ok(true)
-        }
-        Err(CoreRefusal::NotYet { .. }) => Ok(false),
-        Err(CoreRefusal::NoMemory) => Err(NoMemory),
-    }
-}
-
-/// Notes the item of an actor's next step.
-fn note(items: &mut Vec<Items>, a: usize, item: Item) -> Result<(), NoMemory>
-    requires { a < length items.old.items }
-    ensures { OnOk result (items.new.items
-        ≡ slice_set items.old.items a (slice_index_or items.old.items a [] ++ item ∷ [])) }
-{
-    items[a].push(item)
 }

@@ -17,5 +17,8 @@ pub const READ_FAULT: u8 = 4;
 /// A write failed.
 pub const WRITE_FAULT: u8 = 5;
 
+/// The keeper of rows failed.
+pub const STORE_FAULT: u8 = 6;
+
 /// Memory was wanting.
 pub const NO_MEMORY: u8 = 7;

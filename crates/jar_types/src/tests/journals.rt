@@ -1,14 +1,18 @@
 //! Events, entries and journals, copied.
 
-use super::{moment, request, text};
-use crate::{Cookies, Entry, Event, Journal, Op, Own, Prepared, Reply, Text, Texts};
+use super::owns::number_of;
+use super::{id, moment, request, text};
+use crate::{
+    Cookies, Entry, Event, Journal, Op, Own, Prepared, Reply, RowChange, RowChanges, Text, Texts,
+};
 use std::alloc::Global;
 use std::process::Abort;
 
 /// The moment of an event in milliseconds.
 fn event_moment(event: &Event) -> u64 {
     match event {
-        Event::Call { now, .. } | Event::Jar(Own::Whole(now)) => now.ms(),
+        Event::Call { now, .. } => now.ms(),
+        Event::Jar(own) => number_of(own),
     }
 }
 
@@ -40,7 +44,8 @@ fn a_copied_event_of_the_jar_is_the_same(rt: HostRuntime) {
 /// The moment of an entry in milliseconds.
 fn entry_moment(entry: &Entry) -> u64 {
     match entry {
-        Entry::Call { now, .. } | Entry::Jar(Own::Whole(now)) => now.ms(),
+        Entry::Call { now, .. } => now.ms(),
+        Entry::Jar(own) => number_of(own),
     }
 }
 
@@ -78,7 +83,23 @@ fn a_copied_journal_has_the_same_entries(rt: HostRuntime) {
     assert_eq!(rt; copy.len(), 1);
 }
 
-/// That call, made ready, as if it had changed cookies of `h.test`.
+/// A row that is dropped.
+fn dropped(rt: &impl Abort, alloc: Global) -> RowChanges {
+    let mut rows = RowChanges::new(alloc);
+    rows.push(RowChange::Drop(id(rt, alloc, ("h.test", "a", "/"))))
+        .expect(rt, "memory for a list");
+    rows
+}
+
+/// The host of a row that is dropped; `put` where one is put.
+fn host_of(change: &RowChange) -> &str {
+    match change {
+        RowChange::Put(_) => "put",
+        RowChange::Drop(id) => id.host.as_str(),
+    }
+}
+
+/// That call, made ready, as if it had changed cookies of `h.test`, of which one had a row.
 fn prepared(rt: &impl Abort, alloc: Global) -> Prepared {
     let mut moved = Texts::new(alloc);
     moved
@@ -87,6 +108,7 @@ fn prepared(rt: &impl Abort, alloc: Global) -> Prepared {
     Prepared {
         entry: entry(rt, alloc),
         moved,
+        rows: dropped(rt, alloc),
     }
 }
 
@@ -96,6 +118,7 @@ fn a_copied_entry_that_was_made_ready_is_the_same(rt: HostRuntime) {
     let copy = prepared.copy(rt.alloc()).expect(&rt, "memory for a copy");
     assert_eq!(rt; entry_moment(&copy.entry), 7);
     assert_eq!(rt; copy.moved.get(0).map(Text::as_str), Some("h.test"));
+    assert_eq!(rt; copy.rows.get(0).map(host_of), Some("h.test"));
     drop(prepared);
     drop(copy);
 }

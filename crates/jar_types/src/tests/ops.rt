@@ -12,6 +12,8 @@ fn told(op: &Op) -> &str {
         Op::Set { cookie, .. } => cookie.host.as_str(),
         Op::Get(request) => request.host.as_str(),
         Op::Delete { id, .. } => id.host.as_str(),
+        Op::All => "all",
+        Op::Clear => "clear",
         Op::Listen(_) => "listen",
         Op::Changes(_) => "changes",
         Op::Unlisten(_) => "unlisten",
@@ -67,6 +69,13 @@ fn a_copied_delete_is_the_same(rt: HostRuntime) {
         id: id(&rt, rt.alloc(), ("h.test", "a", "/")),
     };
     assert!(rt; is_copied(&rt, rt.alloc(), delete, "h.test", 0));
+}
+
+#[test]
+fn copied_ops_on_all_cookies_are_the_same(rt: HostRuntime) {
+    let alloc = rt.alloc();
+    assert!(rt; is_copied(&rt, alloc, Op::All, "all", 0));
+    assert!(rt; is_copied(&rt, alloc, Op::Clear, "clear", 0));
 }
 
 #[test]

@@ -18,11 +18,13 @@ fn told(reply: &Reply) -> &str {
         Reply::Cookies(_) => "cookies",
         Reply::Script { text, .. } => text.as_str(),
         Reply::Flag(_) => "flag",
+        Reply::Count(_) => "count",
         Reply::Listener(_) => "listener",
         Reply::Changes(_) => "changes",
         Reply::NoListener => "no listener",
         Reply::Posted(_) => "posted",
         Reply::Heard => "heard",
+        Reply::StoreFault => "store fault",
     }
 }
 
@@ -36,7 +38,7 @@ fn number_of(reply: &Reply) -> u64 {
             ..
         } => *version,
         Reply::Flag(flag) => u64::from(*flag),
-        Reply::Listener(number) | Reply::Posted(number) => *number,
+        Reply::Listener(number) | Reply::Posted(number) | Reply::Count(number) => *number,
         Reply::Changes(changes) => changes.len() as u64,
         _ => 0,
     }
@@ -82,6 +84,13 @@ fn copied_cells_and_flags_are_the_same(rt: HostRuntime) {
     assert!(rt; is_copied(&rt, alloc, Reply::Cell(None), "cell", 0));
     assert!(rt; is_copied(&rt, alloc, Reply::Flag(true), "flag", 1));
     assert!(rt; is_copied(&rt, alloc, Reply::Flag(false), "flag", 0));
+}
+
+#[test]
+fn copied_counts_and_faults_are_the_same(rt: HostRuntime) {
+    let alloc = rt.alloc();
+    assert!(rt; is_copied(&rt, alloc, Reply::Count(3300), "count", 3300));
+    assert!(rt; is_copied(&rt, alloc, Reply::StoreFault, "store fault", 0));
 }
 
 #[test]

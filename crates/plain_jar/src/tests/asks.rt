@@ -1,8 +1,9 @@
-//! The op of a row.
+//! The op of a row, and what the jar does itself by it.
 
 use super::rows::{Kind, Row};
 use jar_types::{
-    Context, Cookie, CookieId, Moment, NoMemory, Op, Priority, Request, SameSite, Scope, Text,
+    Context, Cookie, CookieId, Cookies, Moment, NoMemory, Op, Own, Priority, Request, SameSite,
+    Scope, Text,
 };
 use std::alloc::Global;
 
@@ -108,6 +109,41 @@ pub fn op(alloc: Global, row: &Row, now: Moment) -> Result<Op, NoMemory> {
             actor: row.actor,
             n: row.number,
         }),
-        Kind::Get | Kind::Count | Kind::Cell | Kind::Whole => Ok(Op::Get(request(alloc, row)?)),
+        Kind::All => Ok(Op::All),
+        Kind::Clear => Ok(Op::Clear),
+        _ => Ok(Op::Get(request(alloc, row)?)),
     }
+}
+
+/// The cookies that the load of a row lists.
+fn loaded(alloc: Global, row: &Row, now: Moment) -> Result<Cookies, NoMemory> {
+    let mut all = Cookies::new(alloc);
+    for number in 0..row.number {
+        let one = Row {
+            number: number + 1,
+            ..*row
+        };
+        all.push(cookie(alloc, &one, now)?)?;
+    }
+    Ok(all)
+}
+
+/// What the jar does itself by a row; none where a caller asks.
+pub fn own(alloc: Global, row: &Row, now: Moment) -> Result<Option<Own>, NoMemory> {
+    let own = match row.kind {
+        Kind::Want => Own::Want(Text::of(alloc, row.key)?),
+        Kind::WantAll => Own::WantAll,
+        Kind::Begun => Own::Begun(Text::of(alloc, row.key)?),
+        Kind::Loaded => Own::Loaded {
+            key: Text::of(alloc, row.key)?,
+            cookies: loaded(alloc, row, now)?,
+        },
+        Kind::Lost => Own::Lost(Text::of(alloc, row.key)?),
+        Kind::Whole => Own::Whole(now),
+        Kind::Taken => Own::Taken,
+        Kind::Acked => Own::Acked(row.number),
+        Kind::CommitLost => Own::CommitLost(row.number),
+        _ => return Ok(None),
+    };
+    Ok(Some(own))
 }

@@ -68,7 +68,7 @@ const HOSTS: [&str; 19] = [
 ];
 
 /// Sets of 174 cookies of each host.
-fn full_jar(alloc: Global) -> Result<Vec<Row>, NoMemory> {
+pub fn full_jar(alloc: Global) -> Result<Vec<Row>, NoMemory> {
     let mut rows = Vec::new(alloc);
     for host in HOSTS {
         add_sets(&mut rows, host, 174)?;

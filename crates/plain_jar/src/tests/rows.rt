@@ -1,6 +1,7 @@
 //! What tests ask of a jar, row by row.
 
-/// What a row asks: an op, a Get whose cookies are only counted, the cell of a key, or that the jar becomes whole.
+/// What a row asks: an op, a Get whose cookies are only counted, the cell of a key, what is loaded next, whether a caller
+/// waits for a key or for the whole jar, or what the jar does itself.
 #[derive(Clone, Copy)]
 pub enum Kind {
     Bind,
@@ -8,6 +9,8 @@ pub enum Kind {
     Get,
     Count,
     Delete,
+    All,
+    Clear,
     ListenAll,
     ListenSeen,
     ListenNamed,
@@ -16,13 +19,25 @@ pub enum Kind {
     Post,
     Hear,
     Cell,
+    Next,
+    Wanted,
+    AllWanted,
+    Want,
+    WantAll,
+    Begun,
+    Loaded,
+    Lost,
     Whole,
+    Taken,
+    Acked,
+    CommitLost,
 }
 
 /// What is asked, at a moment in milliseconds. `host` is that of the cookie, the id or the request. A number other than 0
-/// stands behind the name of a cookie and behind a key that is bound; else it is that of the listener or of the post.
-/// `script` says whether a script asks, `secure` whether the connection is, and `moved` whether the keys that are moved
-/// are told in the place of the reply.
+/// stands behind the name of a cookie and behind a key that is bound, and is how many cookies a load lists; else it is that
+/// of the listener or of the post, or the place of a batch. `script` says whether a script asks, `secure` whether the
+/// connection is, and `moved` and `rows` whether the keys that are moved or the changes of rows are told in the place of
+/// the reply.
 #[derive(Clone, Copy)]
 pub struct Row {
     pub kind: Kind,
@@ -40,6 +55,7 @@ pub struct Row {
     pub script: bool,
     pub secure: bool,
     pub moved: bool,
+    pub rows: bool,
 }
 
 /// A Set of a session cookie `a` of the host `h.test`, by HTTP over a secure connection.
@@ -59,6 +75,7 @@ pub const SET: Row = Row {
     script: false,
     secure: true,
     moved: false,
+    rows: false,
 };
 
 /// A Set of a cookie of this name and path at a moment.
@@ -137,4 +154,27 @@ pub fn by(caller: u32, row: Row) -> Row {
 /// The row, of which the keys that it moves are told.
 pub fn moving(row: Row) -> Row {
     Row { moved: true, ..row }
+}
+
+/// The row, of which the changes of stored rows are told.
+pub fn storing(row: Row) -> Row {
+    Row { rows: true, ..row }
+}
+
+/// The row, of the key and host `i.test`.
+pub fn elsewhere(row: Row) -> Row {
+    Row {
+        key: "i.test",
+        host: "i.test",
+        ..row
+    }
+}
+
+/// That a load of `h.test` lists some cookies `a1`, `a2` and so on, at a moment, each with an expiry.
+pub fn loaded(number: u64, now: u64) -> Row {
+    Row {
+        kind: Kind::Loaded,
+        number,
+        ..until("a", now, 90_000)
+    }
 }

@@ -1,13 +1,17 @@
 //! Jars that are asked rows, one after another.
 
-ghost use Rattle.std.specs.Prelude.{◌+◌, ◌-◌, ◌^◌, ◌<◌, ◌≤◌, length};
+ghost use Rattle.std.specs.Prelude.{◌≡◌, ◌+◌, ◌-◌, ◌^◌, ◌<◌, ◌≤◌, IfOk, length};
+ghost use Rattle.std.specs.List.Sorted.{IsStrictlySortedBy};
+ghost use Rattle.jar_types.specs.Ids.{text_cmp};
 ghost use Rattle.jar_types.specs.Steps.{OwnMayStand};
 
-use super::asks::{moment, op};
+use super::asks::{moment, op, own};
 use super::rows::{Kind, Row};
-use super::words::{counted, entry_text, moved_text, word};
+use super::words::{counted, entry_text, moved_text, named, rows_text, wish_text, word};
 use crate::PlainJar;
-use jar_types::{CoreRefusal, Event, JarCore, Moment, NoMemory, Own, Prepared, Texts};
+use jar_types::{
+    Awaited, CoreRefusal, Event, JarCore, Moment, NoMemory, Own, Prepared, Text, Texts,
+};
 use std::alloc::Global;
 
 /// What was made ready for a row, in words.
@@ -22,13 +26,34 @@ fn prepared_text(alloc: Global, row: &Row, prepared: &Prepared) -> Result<String
 /// Why nothing was made ready, in words, unless memory was wanting.
 fn refused_text(alloc: Global, refusal: CoreRefusal) -> Result<String, NoMemory> {
     match refusal {
+        CoreRefusal::Pending(Awaited::Key(key)) => named(alloc, "pending", &key),
+        CoreRefusal::Pending(Awaited::All) => word(alloc, "pending all;"),
         CoreRefusal::NotYet { found } => counted(alloc, "not yet", found),
         CoreRefusal::NoMemory => Err(NoMemory),
     }
 }
 
-/// What a core makes of the event of a row, in words.
+/// What was settled of a row, in words.
 #[tactic(auto, using(crate::proofs::EntryLemmas::entries_rise))]
+fn settled<C: JarCore>(
+    alloc: Global,
+    core: &mut C,
+    row: &Row,
+    prepared: Prepared,
+) -> Result<String, NoMemory>
+    requires ready { C.ready core.old prepared }
+    ensures { (C.state core.new).entries ≤ (C.state core.old).entries + 1 }
+{
+    let text = prepared_text(alloc, row, &prepared);
+    let (entry, rows) = core.settle(prepared);
+    drop(entry);
+    if row.rows {
+        return rows_text(alloc, &rows);
+    }
+    text
+}
+
+/// What a core makes of the event of a row, in words.
 fn told<C: JarCore>(
     alloc: Global,
     core: &mut C,
@@ -40,11 +65,7 @@ fn told<C: JarCore>(
     ensures { (C.state core.new).entries ≤ (C.state core.old).entries + 1 }
 {
     match core.prepare(alloc, event) {
-        Ok(prepared) => {
-            let text = prepared_text(alloc, row, &prepared);
-            drop(core.settle(prepared));
-            text
-        }
+        Ok(prepared) => settled(alloc, core, row, prepared),
         Err(refusal) => refused_text(alloc, refusal),
     }
 }
@@ -62,21 +83,32 @@ fn call<C: JarCore>(alloc: Global, core: &mut C, row: &Row, now: Moment) -> Resu
     told(alloc, core, row, &event)
 }
 
-/// What a core makes of becoming whole, where it may.
-fn become_whole<C: JarCore>(
+/// What a core makes of what the jar does itself, where it may.
+fn own_told<C: JarCore>(
     alloc: Global,
     core: &mut C,
     row: &Row,
-    now: Moment,
+    own: Own,
 ) -> Result<String, NoMemory>
     requires { (C.state core.old).entries < 2 ^ 64 - 1 }
     ensures { (C.state core.new).entries ≤ (C.state core.old).entries + 1 }
 {
-    let own = Own::Whole(now);
     if !core.stands(&own) {
         return word(alloc, "no;");
     }
     told(alloc, core, row, &Event::Jar(own))
+}
+
+/// What a core makes of the event of a row.
+fn happened<C: JarCore>(alloc: Global, core: &mut C, row: &Row) -> Result<String, NoMemory>
+    requires { (C.state core.old).entries < 2 ^ 64 - 1 }
+    ensures { (C.state core.new).entries ≤ (C.state core.old).entries + 1 }
+{
+    let now = moment(row.now)?;
+    match own(alloc, row, now)? {
+        Some(own) => own_told(alloc, core, row, own),
+        None => call(alloc, core, row, now),
+    }
 }
 
 /// The cell of a key, in words.
@@ -87,16 +119,26 @@ fn cell<C: JarCore>(alloc: Global, core: &C, key: &'static str) -> Result<String
     }
 }
 
+/// Whether a caller waits for this, in words.
+fn wanted<C: JarCore>(alloc: Global, core: &C, awaited: &Awaited) -> Result<String, NoMemory> {
+    if core.is_wanted(awaited) {
+        word(alloc, "wanted;")
+    } else {
+        word(alloc, "not wanted;")
+    }
+}
+
 /// What a core makes of a row, in words.
 fn answered<C: JarCore>(alloc: Global, core: &mut C, row: &Row) -> Result<String, NoMemory>
     requires { (C.state core.old).entries < 2 ^ 64 - 1 }
     ensures { (C.state core.new).entries ≤ (C.state core.old).entries + 1 }
 {
-    let now = moment(row.now)?;
     match row.kind {
-        Kind::Whole => become_whole(alloc, core, row, now),
         Kind::Cell => cell(alloc, core, row.key),
-        _ => call(alloc, core, row, now),
+        Kind::Next => wish_text(alloc, core.next_load()),
+        Kind::Wanted => wanted(alloc, core, &Awaited::Key(Text::of(alloc, row.key)?)),
+        Kind::AllWanted => wanted(alloc, core, &Awaited::All),
+        _ => happened(alloc, core, row),
     }
 }
 
@@ -112,12 +154,45 @@ pub fn replies<C: JarCore>(alloc: Global, core: &mut C, rows: &[Row]) -> Result<
     Ok(text)
 }
 
+/// A jar without stored cookies.
+pub fn fresh(alloc: Global) -> Result<PlainJar, NoMemory>
+    ensures { IfOk result (λ jar. jar.state.entries ≡ 0) }
+{
+    PlainJar::fresh(alloc, Texts::new(alloc))
+}
+
 /// What a fresh jar makes of these rows, in words.
 pub fn all_replies(alloc: Global, rows: &[Row]) -> Result<String, NoMemory>
     requires { length rows.now < 2 ^ 64 - 1 }
 {
-    let mut jar = PlainJar::fresh(alloc, Texts::new(alloc))?;
+    let mut jar = fresh(alloc)?;
     replies(alloc, &mut jar, rows)
+}
+
+/// The keys `h.test` and `i.test`.
+fn stored_keys(alloc: Global) -> Result<Texts, NoMemory>
+    ensures { IfOk result (λ keys. IsStrictlySortedBy text_cmp keys) }
+{
+    let mut keys = Texts::new(alloc);
+    keys.push(Text::of(alloc, "h.test")?)?;
+    keys.push(Text::of(alloc, "i.test")?)?;
+    Ok(keys)
+}
+
+/// What a jar makes of these rows, in words, in which `h.test` and `i.test` aren't loaded.
+fn replies_of_stored(alloc: Global, rows: &[Row]) -> Result<String, NoMemory>
+    requires { length rows.now < 2 ^ 64 - 1 }
+{
+    let mut jar = PlainJar::fresh(alloc, stored_keys(alloc)?)?;
+    replies(alloc, &mut jar, rows)
+}
+
+/// Whether a jar makes this of these rows in which `h.test` and `i.test` aren't loaded.
+pub fn gives_of_stored(alloc: Global, rows: &[Row], due: &str) -> Result<bool, NoMemory>
+    requires { length rows.now < 2 ^ 64 - 1 }
+{
+    let text = replies_of_stored(alloc, rows)?;
+    Ok(text.as_str() == due)
 }
 
 /// Whether a fresh jar makes this of these rows.

@@ -1,7 +1,10 @@
 //! The replies of a jar in words.
 
 use super::rows::Kind;
-use jar_types::{Cause, Change, Changes, Cookies, Entry, NoMemory, Reply, Text, Texts};
+use jar_types::{
+    Cause, Change, Changes, Cookies, Entry, LoadWish, NoMemory, Reply, Row, RowChange, RowChanges,
+    Text, Texts,
+};
 use std::alloc::Global;
 
 /// A word.
@@ -95,6 +98,7 @@ fn reply_word(reply: &Reply) -> &'static str {
         Reply::Flag(false) => "not there;",
         Reply::NoListener => "no listener;",
         Reply::Heard => "heard;",
+        Reply::StoreFault => "store fault;",
         _ => "no cell;",
     }
 }
@@ -112,6 +116,7 @@ fn reply_text(alloc: Global, kind: Kind, reply: &Reply) -> Result<String, NoMemo
         Reply::Cell(Some(cell)) => counted(alloc, "cell", u64::from(*cell)),
         Reply::Listener(number) => counted(alloc, "listener", *number),
         Reply::Posted(count) => counted(alloc, "posted", *count),
+        Reply::Count(count) => counted(alloc, "cleared", *count),
         _ => word(alloc, reply_word(reply)),
     }
 }
@@ -133,4 +138,50 @@ pub fn moved_text(alloc: Global, keys: &Texts) -> Result<String, NoMemory> {
     }
     text.push_str(";")?;
     Ok(text)
+}
+
+/// The name, creation, expiry and access of a row.
+fn row_text(alloc: Global, row: &Row) -> Result<String, NoMemory> {
+    let name = row.name.as_str();
+    let creation = row.creation;
+    let expiry = row.expiry;
+    let access = row.access;
+    Ok(format!(in alloc; " [put {name} {creation} {expiry} {access}]")?)
+}
+
+/// A row that came, or the name in the id of one that went.
+fn row_change_text(alloc: Global, change: &RowChange) -> Result<String, NoMemory> {
+    match change {
+        RowChange::Put(row) => row_text(alloc, row),
+        RowChange::Drop(id) => {
+            let name = id.name.as_str();
+            Ok(format!(in alloc; " [drop {name}]")?)
+        }
+    }
+}
+
+/// The rows that changed.
+pub fn rows_text(alloc: Global, changes: &RowChanges) -> Result<String, NoMemory> {
+    let mut text = String::from_str(alloc, "rows")?;
+    for change in changes.as_slice() {
+        let part = row_change_text(alloc, change)?;
+        text.push_str(part.as_str())?;
+    }
+    text.push_str(";")?;
+    Ok(text)
+}
+
+/// What would be loaded next.
+pub fn wish_text(alloc: Global, wish: LoadWish) -> Result<String, NoMemory> {
+    match wish {
+        LoadWish::Key(key) => named(alloc, "next", key),
+        LoadWish::Whole => word(alloc, "next all;"),
+        LoadWish::Idle => word(alloc, "idle;"),
+    }
+}
+
+/// A word and a text.
+pub fn named(alloc: Global, word: &'static str, text: &Text) -> Result<String, NoMemory> {
+    let text = text.as_str();
+    Ok(format!(in alloc; "{word} {text};")?)
 }

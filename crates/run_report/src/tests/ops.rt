@@ -114,6 +114,8 @@ fn the_other_ops_have_a_key_or_numbers(rt: HostRuntime) -> Result<(), Fail> {
     );
     let unlisten = "{\"kind\":\"unlisten\",\"listener\":18446744073709551615}";
     assert!(rt; is_op(alloc, Op::Unlisten(18_446_744_073_709_551_615), &[unlisten])?);
+    assert!(rt; is_op(alloc, Op::All, &["{\"kind\":\"all\"}"])?);
+    assert!(rt; is_op(alloc, Op::Clear, &["{\"kind\":\"clear\"}"])?);
     assert!(rt; is_op(alloc, Op::Post, &["{\"kind\":\"post\"}"])?);
     let hear = "{\"actor\":63,\"kind\":\"hear\",\"n\":2}";
     assert!(rt; is_op(alloc, Op::Hear { actor: 63, n: 2 }, &[hear])?);

@@ -23,6 +23,7 @@ fn replies_that_name_nothing_are_a_word(rt: HostRuntime) -> Result<(), Fail> {
     );
     assert!(rt; is_reply(alloc, Reply::NoListener, &["\"no_listener\""])?);
     assert!(rt; is_reply(alloc, Reply::Heard, &["\"heard\""])?);
+    assert!(rt; is_reply(alloc, Reply::StoreFault, &["\"store_fault\""])?);
     Ok(())
 }
 
@@ -33,6 +34,7 @@ fn replies_of_a_flag_or_a_number_have_it(rt: HostRuntime) -> Result<(), Fail> {
     assert!(rt; is_reply(alloc, Reply::Flag(false), &["false"])?);
     assert!(rt; is_reply(alloc, Reply::Cell(None), &["{\"cell\":null}"])?);
     assert!(rt; is_reply(alloc, Reply::Cell(Some(4096)), &["{\"cell\":4096}"])?);
+    assert!(rt; is_reply(alloc, Reply::Count(180), &["{\"count\":180}"])?);
     assert!(rt; is_reply(alloc, Reply::Listener(2), &["{\"listener\":2}"])?);
     assert!(rt; is_reply(alloc, Reply::Posted(3), &["{\"post\":3}"])?);
     Ok(())

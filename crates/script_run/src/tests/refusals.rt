@@ -1,6 +1,6 @@
 //! Each refusal of an input once, and where it applies; those of docs/DEFINITIONS.md in their order.
 
-use super::answers;
+use super::{answers, no_rows};
 use crate::answer::too_large;
 use std::test::Fail;
 
@@ -39,7 +39,7 @@ const REFUSED: [(&str, &str); 13] = [
     ),
     (
         "{\"actors\":[{\"kind\":\"fetch\",\"steps\":[{\"now\":0,\"op\":\"post\"},{\"now\":0,\"op\":\"all\"}]},{\"document\":\"https://h.test/\",\"kind\":\"renderer\",\"site\":null,\"steps\":[]}]}",
-        "{\"path\":\"/actors/0/steps/1\",\"refused\":\"NotBuilt\"}",
+        "{\"path\":\"/actors/1\",\"refused\":\"NotBuilt\"}",
     ),
     (
         "{\"actors\":[{\"kind\":\"fetch\",\"steps\":[]},{\"document\":\"https://h.test/\",\"kind\":\"renderer\",\"site\":null,\"steps\":[]},{\"kind\":\"fetch\",\"steps\":[{\"now\":0,\"op\":\"clear\"}]}]}",
@@ -65,7 +65,9 @@ fn an_input_is_refused_by_its_first_cause(rt: HostRuntime) -> Result<(), Fail> {
 
 #[test]
 fn an_input_that_is_too_large_is_named_at_its_root(rt: HostRuntime) -> Result<(), Fail> {
-    let answer = too_large(rt.alloc())?;
+    let Ok(answer) = too_large(rt.alloc(), no_rows(rt.alloc())) else {
+        return Err("no answer".into());
+    };
     assert_eq!(rt; answer.status, 3);
     assert!(rt; answer.text.as_slice() == b"{\"path\":\"\",\"refused\":\"TooLarge\"}\n".as_slice());
     Ok(())

@@ -1,5 +1,6 @@
 //! The public call: a report as a value.
 
+use super::no_rows;
 use crate::built::unbuilt;
 use crate::{Report, serial};
 use jar_types::NoMemory;
@@ -18,7 +19,10 @@ fn report_of(alloc: Global, script: &str) -> Result<Option<Report>, NoMemory> {
             if unbuilt(&script).is_some() {
                 return Ok(None);
             }
-            Ok(Some(serial(alloc, &script)?))
+            match serial(alloc, &script, no_rows(alloc)) {
+                Ok(ran) => Ok(Some(ran.report)),
+                Err(_) => Err(NoMemory),
+            }
         }
         Err(ScriptRefusal::Refused(_)) => Ok(None),
         Err(ScriptRefusal::NoMemory) => Err(NoMemory),

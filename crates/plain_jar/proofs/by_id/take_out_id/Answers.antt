@@ -1,7 +1,7 @@
 use Rattle.std.proofs.Common.{rules}
 use Rattle.std.specs.Prelude.{not}
 use Rattle.std.proofs.lemmas.Fn.{filter_same}
-use Rattle.jar_types.specs.Deletes.{has_id}
+use Rattle.jar_types.specs.RowChanges.{has_id}
 use Rattle.plain_jar.proofs.by_id.take_out_id.Goals as goal
 
 pub returns : goal.returns

@@ -1,0 +1,4 @@
+mod PutLemmas
+pub mod NewestLemmas
+mod MergeLemmas
+mod StandardFacts

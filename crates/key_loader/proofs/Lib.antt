@@ -1,0 +1,9 @@
+mod OrderLemmas
+mod PlaceLemmas
+mod TimesLemmas
+mod PlanLemmas
+mod LoadLemmas
+mod SearchLemmas
+mod HostLemmas
+mod NextLemmas
+mod StandardFacts

@@ -1,0 +1,8 @@
+use Rattle.std.proofs.Common.{◌≡◌, ◌++◌, [], drop}
+use Rattle.jar_types.specs.RowChanges.{row_changes}
+use Rattle.plain_jar.proofs.row_changes.add_puts.Given as goal
+
+abbrev pub invariant-loop-cookie : goal.invariant-loop-cookie
+invariant-loop-cookie l =
+    l.changes.items ++ row_changes [] (drop l.cookie-index l.later)
+    ≡ l.initial.changes.items ++ row_changes [] l.later

@@ -1,0 +1,9 @@
+use Rattle.run_report.proofs.TokenLemmas.{token, and_then}
+use Rattle.run_report.proofs.own.write_whole.Goals as goal
+
+pub returns : goal.returns
+returns c =
+    and_then (token c.in_ok-begin_object.ensures)
+    (and_then c.in_ok-write_moment.ensures
+    (and_then c.in_ok-write_word.ensures
+    (token c.in_ok-end_object.ensures)))

@@ -1,0 +1,5 @@
+use Rattle.script_run.proofs.StoredRunLemmas.{stored_runs_are_kept}
+use Rattle.script_run.proofs.run_law.stored_runs_are_kept.Goals as goal
+
+pub returns : goal.returns
+returns c = stored_runs_are_kept

@@ -1,0 +1,20 @@
+pub mod IdLemmas
+pub mod FoundLemmas
+pub mod OrderLemmas
+pub mod AtLemmas
+pub mod MadeLemmas
+pub mod PlacedLemmas
+pub mod TextLemmas
+pub mod SoundLemmas
+pub mod ChangeLemmas
+pub mod HostLemmas
+pub mod LoadLemmas
+pub mod RowLemmas
+pub mod EachLemmas
+pub mod KeyLemmas
+pub mod StorableLemmas
+pub mod KeepLemmas
+pub mod LoadedLemmas
+pub mod EventLemmas
+pub mod StoredLemmas
+mod StoredFacts

@@ -1,0 +1,9 @@
+pub mod Coalescing
+pub mod HostLoads
+pub mod Keeping
+pub use Rattle.jar_types.specs.Ids
+pub use Rattle.jar_types.specs.Batches
+pub use Rattle.jar_types.specs.RowChanges
+pub use Rattle.jar_types.specs.Rows
+pub use Rattle.jar_types.specs.Journals
+pub use Rattle.jar_types.specs.Stored
