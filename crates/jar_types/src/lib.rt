@@ -2,6 +2,7 @@
 //! thread does.
 #![tactic(auto)]
 
+mod ask_cause;
 mod bound_key;
 mod change;
 mod cookie;
@@ -16,6 +17,7 @@ mod request;
 mod row;
 mod tally;
 
+pub use ask_cause::AskCause;
 pub use bound_key::{BoundKey, BoundKeys, MOST_CELLS};
 pub use change::{Cause, Change, Changes};
 pub use cookie::{Cookie, CookieId, Cookies};

@@ -14,4 +14,4 @@ mod Points
 mod Reaching
 mod StandardFacts
 mod RefusedWorlds
-mod ListFacts
+pub mod ListFacts
