@@ -1,0 +1,12 @@
+pub mod TextFacts
+pub mod RowOrder
+pub mod ReadLemmas
+pub mod NumberedLemmas
+pub mod DropLemmas
+pub mod PutLemmas
+pub mod UpsertLemmas
+pub mod StateLemmas
+pub mod QueryLemmas
+pub mod CommitLemmas
+pub mod RisingLemmas
+pub mod KeptLemmas

@@ -1,0 +1,11 @@
+pub mod CookieTable
+pub mod TableRows
+pub mod Rising
+pub mod Changing
+pub mod Kept
+pub mod Laws
+pub use Rattle.jar_keeper.specs.Keepers
+pub use Rattle.jar_keeper.specs.HostRows
+pub use Rattle.jar_types.specs.Ids
+pub use Rattle.jar_types.specs.RowChanges
+pub use Rattle.jar_types.specs.Stored
