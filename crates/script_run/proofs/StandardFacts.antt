@@ -33,6 +33,7 @@ use Rattle.script_run.specs.Answers.{status_of}
 use Rattle.script_run.specs.Rounds.{Giving, Service, flushed, is_due, loaded, rounds}
 use Rattle.script_run.specs.Runs.{Run, asked, begin_of, is_done}
 use Rattle.script_run.specs.Tool.{Writes, Fails}
+use Rattle.script_run.specs.Words.{runs_serial, store_file}
 use Rattle.script_text.specs.declared.actor.Actor.{Actor}
 use Rattle.script_text.specs.declared.refused.Refusal.TheVariants as name
 use Rattle.script_text.specs.declared.script.Script.{Script}
@@ -58,6 +59,26 @@ statuses = (refl, refl, refl, refl, refl, refl, refl)
 report_statuses : (status_of (Jar (Begun (codes "h.test")) ∷ Jar (Loaded (codes "h.test") []) ∷ []) ≡ 0)
     × (status_of (Jar (Lost (codes "h.test")) ∷ []) ≡ 6) × (status_of (Jar (CommitLost 3) ∷ Jar Taken ∷ Jar (Acked 5) ∷ []) ≡ 6)
 report_statuses = (refl, refl, refl)
+
+-- ---- words
+
+-- the words of `serial` that have a store, and its file
+with_stores : (store_file (codes "serial" ∷ codes "--store" ∷ codes "jar.db" ∷ []) ≡ Some (codes "jar.db"))
+    × (store_file (codes "serial" ∷ codes "--store=a=b" ∷ []) ≡ Some (codes "a=b"))
+    × (store_file (codes "serial" ∷ []) ≡ None)
+with_stores = (refl, refl, refl)
+
+-- a file's name isn't empty and begins with no hyphen; other commands, repeats and further words aren't taken
+without_stores : (store_file (codes "serial" ∷ codes "--store=" ∷ []) ≡ None) × (store_file (codes "serial" ∷ codes "--store=-a" ∷ []) ≡ None)
+    × (store_file (codes "serial" ∷ codes "--store" ∷ [] ∷ []) ≡ None) × (store_file (codes "serial" ∷ codes "--store" ∷ codes "-a" ∷ []) ≡ None)
+    × (store_file (codes "run" ∷ codes "--store=a" ∷ []) ≡ None) × (store_file (codes "serial" ∷ codes "--stores" ∷ codes "a" ∷ []) ≡ None)
+    × (store_file (codes "serial" ∷ codes "--store" ∷ codes "a" ∷ codes "b" ∷ []) ≡ None)
+without_stores = (refl, refl, refl, refl, refl, refl, refl)
+
+serial_words : (runs_serial (codes "serial" ∷ []) ≡ true) × (runs_serial (codes "serial" ∷ codes "--store=a" ∷ []) ≡ true)
+    × (runs_serial (codes "serial" ∷ codes "--store" ∷ []) ≡ false) × (runs_serial [] ≡ false)
+    × (runs_serial (codes "serial" ∷ codes "serial" ∷ []) ≡ false)
+serial_words = (refl, refl, refl, refl, refl)
 
 -- ---- streams
 

@@ -10,4 +10,5 @@ pub mod StoredRuns
 pub mod Listening
 pub mod Refusals
 pub mod Answers
+pub mod Words
 pub mod Tool

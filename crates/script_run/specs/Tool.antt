@@ -1,7 +1,6 @@
 -- What the program does for its words: the statuses, and what is written under each. This jar's own
 -- rule: docs/DEFINITIONS.md.
-use Rattle.std.specs.Prelude.{◌≡◌, ◌⊎◌, ◌+◌, ◌≤◌, ℕ, List, [], ◌∷◌, length, Bool, false, bytes_eq}
-use Rattle.std.specs.Prelude.{codes}
+use Rattle.std.specs.Prelude.{◌≡◌, ◌⊎◌, ◌+◌, ◌≤◌, ℕ, List, length, codes}
 use Rattle.jar_edge.specs.Faults.{Rose}
 use Rattle.jar_edge.specs.Streams.{GivesToEnd, GivesSome, TakesJust, TakesPart}
 use Rattle.jar_edge.specs.Told.{SourceTold, SinkTold}
@@ -11,12 +10,6 @@ use Rattle.script_run.specs.declared.tool.Failure.TheVariants.{ReadFault, NoMemo
 use Rattle.script_run.specs.declared.tool.TheConstants.{MOST_INPUT}
 use Rattle.script_run.specs.Answers.{KeeperTold, IsTooLarge, IsDue, Uncalled}
 use Rattle.jar_types.specs.declared.entry.Entry.{Entry}
-
--- the words are `serial` alone
-abbrev pub is_serial : List (List ℕ) → Bool
-is_serial [] = false
-is_serial (word ∷ []) = bytes_eq word (codes "serial")
-is_serial (word ∷ other ∷ words) = false
 
 -- what is written for other words
 abbrev pub usage_text : List ℕ

@@ -15,6 +15,7 @@ mod status;
 mod timed;
 mod tool;
 mod tries;
+mod words;
 
 pub use answer::{Answer, NoAnswer, answer_of};
 pub use built::unbuilt;
@@ -26,6 +27,7 @@ pub use rounds::{MOST_HOSTS, Ran, RunFail, RunRefusal, serial};
 pub use run_law::{stored_runs_are_eager, stored_runs_are_honest, stored_runs_are_kept};
 pub use run_report::{Item, ItemLists, Items, RefusalName, Report};
 pub use tool::{MOST_INPUT, Outcome, serial_tool};
+pub use words::store_path;
 
 #[cfg(test)]
 mod tests;

@@ -5,9 +5,11 @@ ghost use Rattle.script_run.specs.Answers.{told_of};
 ghost use Rattle.script_run.specs.declared.status.TheConstants.{OTHER_WORDS, READ_FAULT, NO_MEMORY};
 ghost use Rattle.script_run.specs.declared.tool.Failure.TheVariants as failure;
 ghost use Rattle.script_run.specs.Tool as spec;
+ghost use Rattle.script_run.specs.Words.{runs_serial as are_of_serial};
 
 use crate::answer::{Answer, NoAnswer, answer_of, too_large};
 use crate::status::{NO_MEMORY, OTHER_WORDS, READ_FAULT, WRITE_FAULT};
+use crate::words::runs_serial;
 use jar_edge::{ReadRefusal, Sink, Source, read_whole, write_all};
 use jar_keeper::Keeper;
 use jar_types::Journal;
@@ -30,11 +32,14 @@ pub struct Outcome<K: Keeper + Drop> {
     pub journal: Journal,
 }
 
-/// Runs the program for its words: `serial` reads a script from the source, runs it over the keeper
-/// and writes its report to the sink. The input is just what the source's reads gave, up to the end.
+/// Runs the program for its words: `serial`, with a store or without one, reads a script from the
+/// source, runs it over the keeper and writes its report to the sink. The input is just what the
+/// source's reads gave, up to the end. The store's file is for the caller to open: [`store_path`]
+/// gives it.
 ///
 /// The status is the one of the process:
-/// - 2 where the words aren't `serial` alone; neither source nor keeper is called then;
+/// - 2 where the words aren't `serial`, `serial --store FILE` or `serial --store=FILE`; neither
+///   source nor keeper is called then;
 /// - 4 where the source's count of faults rose: it gave no byte past [`MOST_INPUT`], nothing is
 ///   written and the keeper isn't called;
 /// - 3 where the input is refused, and the line that names the refusal is written; the keeper isn't
@@ -57,13 +62,13 @@ pub fn serial_tool<S: Source, O: Sink, K: Keeper + Drop>(
     keeper: K,
 ) -> Outcome<K>
     // Other words: the usage line, whatever the input.
-    ensures unread { spec.is_serial (map (λ word. word.now) words.now) ≡ false
+    ensures unread { are_of_serial (map (λ word. word.now) words.now) ≡ false
         → (source.new ≡ source.old) × (result.keeper ≡ keeper) × (result.journal.list ≡ []) }
-    ensures usage { spec.is_serial (map (λ word. word.now) words.now) ≡ false
+    ensures usage { are_of_serial (map (λ word. word.now) words.now) ≡ false
         → spec.Writes OTHER_WORDS spec.usage_text result.status (O.told sink.old) (O.told sink.new) }
 
     // `serial`: what is due for the input, which was read without a fault.
-    ensures answers { spec.is_serial (map (λ word. word.now) words.now) ≡ true
+    ensures answers { are_of_serial (map (λ word. word.now) words.now) ≡ true
         → result.status ≢ READ_FAULT → result.status ≢ NO_MEMORY
         → spec.Answers (told_of (K.tells keeper) (K.undisturbed keeper) (K.faults keeper))
         (told_of (K.tells result.keeper) (K.undisturbed result.keeper) (K.faults result.keeper))
@@ -71,14 +76,14 @@ pub fn serial_tool<S: Source, O: Sink, K: Keeper + Drop>(
         (record { source = S.told source.new; sink = O.told sink.new }) result.journal.list result.status }
 
     // `serial`: a fault of the source, or want of memory, and how many bytes the source gave.
-    ensures read_fault { spec.is_serial (map (λ word. word.now) words.now) ≡ true
+    ensures read_fault { are_of_serial (map (λ word. word.now) words.now) ≡ true
         → result.status ≡ READ_FAULT → (sink.new ≡ sink.old) × (result.keeper ≡ keeper) × (result.journal.list ≡ [])
         × spec.Fails (S.told source.old) (S.told source.new) failure.ReadFault }
-    ensures memory { spec.is_serial (map (λ word. word.now) words.now) ≡ true
+    ensures memory { are_of_serial (map (λ word. word.now) words.now) ≡ true
         → result.status ≡ NO_MEMORY → (sink.new ≡ sink.old)
         × spec.Fails (S.told source.old) (S.told source.new) failure.NoMemory }
 {
-    if !is_serial(words) {
+    if !runs_serial(words) {
         return Outcome {
             status: write(sink, USAGE.as_bytes(), OTHER_WORDS),
             keeper,
@@ -97,13 +102,6 @@ pub fn serial_tool<S: Source, O: Sink, K: Keeper + Drop>(
             journal: unanswered.journal,
         },
     }
-}
-
-/// Whether the words are `serial` alone.
-fn is_serial(words: &[&str]) -> bool
-    ensures { result ≡ spec.is_serial (map (λ word. word.now) words.now) }
-{
-    words.len() == 1 && words[0] == "serial"
 }
 
 /// Writes a text, and answers the status that is due, or [`WRITE_FAULT`] where a write failed.
