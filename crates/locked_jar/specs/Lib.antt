@@ -1,0 +1,9 @@
+pub mod LockedJars
+pub mod Passes
+pub mod Owns
+pub mod Moving
+pub mod Readying
+pub mod Entering
+pub mod Calls
+pub mod History
+pub mod Room
