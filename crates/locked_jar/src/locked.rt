@@ -76,9 +76,10 @@ impl<C: JarCore + Drop> Locked<C> {
         &self.parts.core
     }
 
-    /// The journal.
+    /// The journal: it has as many entries as were counted.
     pub fn journal(&self) -> &Journal
-        ensures { result.now.list ≡ journal_of self.now.jar.seen }
+        ensures value { result.now.list ≡ journal_of self.now.jar.seen }
+        ensures counted { length self.now.jar.seen ≡ self.now.jar.state.entries }
     {
         &self.parts.journal
     }

@@ -1,0 +1,4 @@
+pub mod Cutting
+pub mod Looking
+pub mod Loading
+pub mod Flushing
