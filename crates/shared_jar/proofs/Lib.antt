@@ -1,0 +1,4 @@
+mod TogetherLemmas
+mod OpeningLemmas
+mod ServingLemmas
+mod StandardFacts
