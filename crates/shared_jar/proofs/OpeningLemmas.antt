@@ -1,5 +1,5 @@
 -- A jar that is opened: its passes, its keys, and what holds before its first entry.
-use Rattle.std.proofs.Common.{◌≡◌, ◌≤◌, ◌<◌, ◌+◌, ℕ, suc, List, [], ◌∷◌, ◌++◌, length, map, refl, sym, ap, ◌∙◌, subst, arith}
+use Rattle.std.proofs.Common.{◌≡◌, ◌≤◌, ◌<◌, ◌+◌, ℕ, suc, List, [], ◌∷◌, ◌++◌, length, map, refl, sym, ap, ◌∙◌, arith}
 use Rattle.std.specs.Prelude.{if◌then◌else◌}
 use Rattle.std.specs.List.Sorted.{IsStrictlySortedBy}
 use Rattle.std.specs.Ordering.{is_lt, is_eq}
@@ -10,7 +10,6 @@ use Rattle.atomic_table.specs.Seated.{TableId}
 use Rattle.jar_types.specs.Ids.{text_cmp}
 use Rattle.jar_types.specs.Journals.{Rules, key_at, state_of, stored_keys}
 use Rattle.jar_types.specs.Orders.{ascending, placed_once}
-use Rattle.jar_types.specs.States.{opening}
 use Rattle.version_cells.specs.Standing.{PassStanding, new_pass_standing, new_passes}
 use Rattle.locked_jar.specs.LockedJars.{LockedJar, opened}
 use Rattle.locked_jar.proofs.HistoryLemmas.{histories_begin}
@@ -24,7 +23,7 @@ no_end : {A : Type 0} → (ys : List A) (y : A) → [] ≡ ys ++ y ∷ [] → �
 no_end [] y e = absurd cc
 no_end (z ∷ ys) y e = absurd cc
 
-one_end : {A : Type 0} → (xs ys : List A) (x y : A) → xs ++ x ∷ [] ≡ ys ++ y ∷ [] → (xs ≡ ys) × (x ≡ y)
+pub one_end : {A : Type 0} → (xs ys : List A) (x y : A) → xs ++ x ∷ [] ≡ ys ++ y ∷ [] → (xs ≡ ys) × (x ≡ y)
 one_end [] [] x y e = (refl, cc)
 one_end {A} [] (b ∷ ys) x y e = let rest : [] ≡ ys ++ y ∷ [] = cc in absurd (no_end ys y rest)
 one_end {A} (a ∷ xs) [] x y e = let rest : [] ≡ xs ++ x ∷ [] = cc in absurd (no_end xs x rest)

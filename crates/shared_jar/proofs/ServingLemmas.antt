@@ -1,18 +1,18 @@
 -- What always holds of a jar and its vault, after each load.
-use Rattle.std.proofs.Common.{◌≡◌, ◌≤◌, ◌<◌, ◌+◌, ℕ, zero, List, [], ◌∷◌, ◌++◌, Bool, true, false, cond, Option, None, Some, length, refl, sym, ap, ◌∙◌, subst, arith, eq-eqb, ⊎_elim}
-use Rattle.std.specs.Prelude.{◌&&◌, ◌||◌, nat_le, is_none, slice_get, bytes_eq, Result, Ok, Err, ◌⊎◌, not, ◌==◌}
+use Rattle.std.proofs.Common.{◌≡◌, ◌≤◌, ◌<◌, ◌+◌, ℕ, List, [], ◌∷◌, Bool, true, false, cond, Option, None, Some, length, refl, sym, ap, ◌∙◌, subst, arith, eq-eqb, ⊎_elim}
+use Rattle.std.specs.Prelude.{◌||◌, nat_le, is_none, slice_get, bytes_eq, Result, Ok, Err, not, ◌==◌}
 use Rattle.std.specs.Option.{option_or}
 use Rattle.std.proofs.lemmas.Bool.{and_parts}
 use Rattle.atomic_table.specs.Seated.{TableId}
 use Rattle.jar_types.specs.declared.cookie.Cookie.{Cookie}
 use Rattle.commit_batches.specs.declared.pending.TheConstants.{MOST_PENDING}
 use Rattle.jar_types.specs.declared.entry.Own.{Own}
-use Rattle.jar_types.specs.declared.entry.Own.TheVariants.{Want, WantAll, Begun, Loaded, Lost, Whole, Taken, Acked, CommitLost}
+use Rattle.jar_types.specs.declared.entry.Own.TheVariants.{Begun, Loaded, Lost, Whole, Taken, Acked, CommitLost}
 use Rattle.jar_types.specs.Batches.{is_out}
 use Rattle.jar_types.specs.Journals.{Rules, own_fits, state_of, stored_keys}
-use Rattle.jar_types.specs.Loads.{KeyLoads, Loads, all_loaded, is_begun, is_the, may_load, next_key}
+use Rattle.jar_types.specs.Loads.{all_loaded, is_begun, is_the, may_load, next_key}
 use Rattle.jar_types.specs.States.{JarState}
-use Rattle.jar_types.specs.Steps.{after, own_may_stand}
+use Rattle.jar_types.specs.Steps.{own_may_stand}
 use Rattle.stored_law.proofs.TextLemmas.{text_itself}
 use Rattle.version_cells.specs.Standing.{PassStanding}
 use Rattle.locked_jar.specs.History.{IsHistory}
@@ -28,7 +28,7 @@ use Rattle.store_vault.specs.declared.refusal.LoadStep.TheVariants.{Key, Whole a
 use Rattle.store_vault.specs.declared.stored.Stored.{Stored}
 use Rattle.store_vault.specs.declared.vault.TheConstants.{MOST_OWNS}
 use Rattle.store_vault.specs.Cutting.{HasCut, Stays, did, did_if_may}
-use Rattle.store_vault.specs.Loading.{BecomesWhole, BeginsKey, IsLoad, LoadsKey, LosesKey, rules_of}
+use Rattle.store_vault.specs.Loading.{BeginsKey, IsLoad, rules_of}
 use Rattle.shared_jar.specs.Together.{IsJar}
 use Rattle.shared_jar.proofs.TogetherLemmas.{both_true, cut_jar, served_goes_on, stays_jar}
 
@@ -43,7 +43,7 @@ begun_going_at : (r : Rules) (cutter : ℕ) (j : LockedJar) (key : List ℕ) (ma
 begun_going_at r cutter j key true e is = served_goes_on r cutter j (Begun key) refl e refl is.0 is.1
 begun_going_at r cutter j key false e is = is
 
-begun_going : (r : Rules) (cutter : ℕ) (j : LockedJar) (key : List ℕ) → IsGoing r cutter j → IsGoing r cutter (did_if_may cutter j (Begun key))
+pub begun_going : (r : Rules) (cutter : ℕ) (j : LockedJar) (key : List ℕ) → IsGoing r cutter j → IsGoing r cutter (did_if_may cutter j (Begun key))
 begun_going r cutter j key is = begun_going_at r cutter j key (own_may_stand j.state (Begun key)) refl is
 
 -- the load of the key has then begun
@@ -62,7 +62,7 @@ begun_at cutter j key None false b e next =
     both_true (may_load (Begun key) j.state.loads) true (both_true (is_none j.state.loads.keys.begun) (is_the key (next_key j.state.loads.keys)) free named) refl in
     let z : true ≡ false = sym may ∙ e in absurd cc
 
-has_begun : (cutter : ℕ) (j : LockedJar) (key : List ℕ) → next_key j.state.loads.keys ≡ Some key
+pub has_begun : (cutter : ℕ) (j : LockedJar) (key : List ℕ) → next_key j.state.loads.keys ≡ Some key
     → is_begun key (did_if_may cutter j (Begun key)).state.loads.keys ≡ true
 has_begun cutter j key next = begun_at cutter j key j.state.loads.keys.begun (own_may_stand j.state (Begun key)) refl refl next
 
@@ -159,7 +159,30 @@ module _ (stored : Stored) (callers : ℕ) (table : TableId) (j : LockedJar) (p 
       ⊎_elim (λ stays. at_stay j' q owns' is stays count) (λ begins. begins_at j' q owns' is told.1 begins count) told.2
   after_load j' q owns' (Err Spent) is told count = at_stay j' q owns' is told.2 count
 
+-- callers may have as many entries as before
+pub load_limit : (stored : Stored) (owns : ℕ) (j j' : LockedJar) (p q : PassStanding) (result : Result LoadStep LoadRefusal) → IsLoad stored owns j j' p q result
+    → j'.limit ≡ j.limit
+load_limit stored owns j j' p q (Ok Idle) told = ap (λ (i : LockedJar). i.limit) told.1.0
+load_limit stored owns j j' p q (Ok IsWhole) told = ap (λ (i : LockedJar). i.limit) told.1.is
+load_limit stored owns j j' p q (Ok Key) told =
+    ap (λ (i : LockedJar). i.limit) told.1.is ∙ same_limit (own_may_stand j.state (Begun told.1.key)) p.view.number j (Begun told.1.key)
+load_limit stored owns j j' p q (Err StoreFault) told =
+    ap (λ (i : LockedJar). i.limit) told.1.is ∙ same_limit (own_may_stand j.state (Begun told.1.key)) p.view.number j (Begun told.1.key)
+load_limit stored owns j j' p q (Err NoMemory) told =
+    ⊎_elim (λ stays. ap (λ (i : LockedJar). i.limit) stays.0) (λ begins. ap (λ (i : LockedJar). i.limit) begins.is) told.2
+load_limit stored owns j j' p q (Err Spent) told = ap (λ (i : LockedJar). i.limit) told.2.0
+
 -- ---- a flush
+
+-- callers may have as many entries as before
+pub flush_limit : (force : Bool) (owns : ℕ) (j j' : LockedJar) (p q : PassStanding) (kept kept' : Kept) (result : Result ℕ FlushRefusal)
+    → IsFlush force owns j j' p q kept kept' result → j'.limit ≡ j.limit
+flush_limit force owns j j' p q kept kept' (Ok place) told =
+    ⊎_elim (λ none. ap (λ (i : LockedJar). i.limit) none.1.0) (λ some. ap (λ (i : LockedJar). i.limit) some.2.is) told
+flush_limit force owns j j' p q kept kept' (Err refusal.StoreFault) told = ap (λ (i : LockedJar). i.limit) told.2.is
+flush_limit force owns j j' p q kept kept' (Err refusal.NoMemory) told =
+    ⊎_elim (λ none. ap (λ (i : LockedJar). i.limit) none.0.0) (λ lost. ap (λ (i : LockedJar). i.limit) lost.is) told.2
+flush_limit force owns j j' p q kept kept' (Err refusal.Spent) told = ap (λ (i : LockedJar). i.limit) told.2.0
 
 -- a batch is taken where one is due
 taken_going : (r : Rules) (cutter : ℕ) (j : LockedJar) (force : Bool) → is_batch_due force j.state ≡ true → IsGoing r cutter j → IsGoing r cutter (did cutter j Taken)

@@ -1,5 +1,5 @@
 -- What always holds of a jar and its vault, after each call.
-use Rattle.std.proofs.Common.{◌≡◌, ◌≤◌, ◌<◌, ◌+◌, ◌*◌, ℕ, List, [], ◌∷◌, ◌++◌, Bool, true, false, None, Some, length, refl, sym, ap, ◌∙◌, subst, arith, ◌≢◌, ne_eqb}
+use Rattle.std.proofs.Common.{◌≡◌, ◌≤◌, ◌<◌, ◌+◌, ℕ, List, [], ◌∷◌, ◌++◌, Bool, true, false, None, Some, length, refl, sym, ap, ◌∙◌, subst, arith, ◌≢◌, ne_eqb}
 use Rattle.std.specs.Prelude.{◌&&◌, is_none, nat_lt, Result, Ok, Err, IfOk, IfErr}
 use Rattle.std.proofs.lemmas.Bool.Decides.{nat_tests}
 use Rattle.std.proofs.lemmas.List.{length-map}
@@ -12,7 +12,7 @@ use Rattle.jar_types.specs.declared.jar_core.Awaited.{Awaited}
 use Rattle.jar_types.specs.declared.jar_core.Awaited.TheVariants as awaited
 use Rattle.jar_types.specs.declared.op.Op.{Op}
 use Rattle.jar_types.specs.Journals.{Rules, is_well_keyed, own_fits, stands, state_of, stored_keys}
-use Rattle.jar_types.specs.Steps.{after, entry_of, own_may_stand}
+use Rattle.jar_types.specs.Steps.{after, own_may_stand}
 use Rattle.jar_types.specs.Waits.{op_waits}
 use Rattle.jar_types.proofs.JournalLemmas.{state_push}
 use Rattle.version_cells.specs.declared.cells.TheConstants.{MOST_ENTRIES}
@@ -26,13 +26,13 @@ use Rattle.locked_jar.specs.declared.receipt.CallRefusal.TheVariants.{Spent, Pen
 use Rattle.locked_jar.specs.declared.receipt.Receipt.{Receipt}
 use Rattle.locked_jar.specs.Calls.{Answers, RefusesCall, noted, want_of, wanted}
 use Rattle.locked_jar.specs.History.{IsHistory}
-use Rattle.locked_jar.specs.LockedJars.{HasRoom, LockedJar, about_of, entered, journal_of, listing_at}
-use Rattle.locked_jar.specs.Room.{is_served, served_in}
+use Rattle.locked_jar.specs.LockedJars.{LockedJar, about_of, entered, journal_of, listing_at}
+use Rattle.locked_jar.specs.Room.{is_served}
 use Rattle.locked_jar.proofs.HistoryLemmas.{histories_go_on, journal_push}
 use Rattle.locked_jar.proofs.RoomLemmas.{journals_have_room, served_are_owned}
 use Rattle.store_vault.specs.declared.stored.Stored.{Stored}
 use Rattle.store_vault.specs.declared.vault.TheConstants.{MOST_OWNS}
-use Rattle.store_vault.specs.Cutting.{HasCut, Stays, did, did_if_may}
+use Rattle.store_vault.specs.Cutting.{HasCut, Stays, did}
 use Rattle.store_vault.specs.Loading.{rules_of}
 use Rattle.locked_jar.specs.Passes.{HasAnswered, HasSeen}
 use Rattle.shared_jar.specs.Together.{IsCaller, IsJar}
@@ -212,7 +212,7 @@ stays_jar r table j j' p q owns owns' is stays count =
 
 -- ---- the caller's pass
 
-seen_caller : (r : Rules) (table : TableId) (history : List Listing) (p q : PassStanding) → IsCaller r table p → HasSeen history p q → IsCaller r table q
+pub seen_caller : (r : Rules) (table : TableId) (history : List Listing) (p q : PassStanding) → IsCaller r table p → HasSeen history p q → IsCaller r table q
 seen_caller r table history p q is seen =
     let number = seen.met.number in
     let among = is.among in

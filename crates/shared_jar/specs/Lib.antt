@@ -1,2 +1,9 @@
 pub mod Together
 pub mod Opening
+pub mod Versions
+pub mod Finishing
+pub mod Holding
+pub mod Faults
+pub mod Ending
+pub mod Sharing
+pub mod Knowing

@@ -1,5 +1,5 @@
 -- What always holds of a jar and its vault together. This jar's own rule: docs/DEFINITIONS.md.
-use Rattle.std.specs.Prelude.{◌≡◌, ◌≤◌, ◌+◌, ◌^◌, ℕ, length, false}
+use Rattle.std.specs.Prelude.{◌≡◌, ◌≤◌, ◌+◌, ℕ, length}
 use Rattle.atomic_table.specs.Seated.{TableId}
 use Rattle.jar_types.specs.Journals.{Rules, state_of, stored_keys}
 use Rattle.version_cells.specs.Listings.{owned}

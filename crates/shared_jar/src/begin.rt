@@ -6,7 +6,9 @@ ghost use Rattle.jar_types.specs.Ids.{text_cmp};
 ghost use Rattle.jar_types.specs.Journals.{stored_keys};
 ghost use Rattle.jar_types.specs.Stored.{hosts_of};
 ghost use Rattle.jar_types.specs.declared.row.Row.{Row as RowData};
-ghost use Rattle.locked_jar.specs.LockedJars.{opened};
+ghost use Rattle.locked_jar.specs.LockedJars.{journal_of, opened};
+ghost use Rattle.shared_jar.specs.Faults.{FaultsAre};
+ghost use Rattle.shared_jar.specs.Holding.{BeginsOver, IsBeside};
 ghost use Rattle.shared_jar.specs.Opening.{BeginsJar, FailsBegin, HasPasses, IsNewVault};
 ghost use Rattle.shared_jar.specs.declared.opening.TheConstants.{MOST_CALLERS, MOST_HOSTS, MOST_LIMIT};
 ghost use Rattle.store_vault.specs.Loading.{rules_of};
@@ -96,6 +98,8 @@ fn assembled<C: JarCore + Drop, K: Keeper + Drop>(
     ensures passes { HasPasses result.jar.cells callers result.passes.items result.loader result.committer }
     ensures jar { (result.jar.locked.jar ≡ parts.locked.jar) × (result.jar.callers ≡ callers)
         × (result.jar.vault.stored ≡ parts.stored) × (result.jar.vault.keeper ≡ keeper) }
+    ensures beside { IsBeside (rules_of result.jar.vault.stored callers result.jar.locked.jar.limit)
+        result.jar.locked.jar result.jar.vault.kept result.jar.vault.acked }
     ensures vault { IsNewVault result.jar.vault.kept result.jar.vault.acked result.jar.vault.owns result.jar.vault.starved }
 {
     let Parts {
@@ -157,6 +161,19 @@ impl<C: JarCore + Drop, K: Keeper + Drop> OwnJar<C, K> {
         ensures over { IfOk result (λ opened. (K.faults opened.jar.vault.keeper ≡ K.faults keeper)
             × (K.undisturbed opened.jar.vault.keeper → (rows : List RowData) → K.tells keeper rows
             → opened.jar.vault.stored.hosts ≡ hosts_of rows)) }
+
+        // What waits, waits beside the journal; the keeper holds what is held beside it; and it tells of
+        // its faults.
+        ensures beside { IfOk result (λ opened. IsBeside
+            (rules_of opened.jar.vault.stored callers opened.jar.locked.jar.limit)
+            opened.jar.locked.jar opened.jar.vault.kept opened.jar.vault.acked) }
+        ensures held { IfOk result (λ opened. K.undisturbed opened.jar.vault.keeper
+            → BeginsOver (rules_of opened.jar.vault.stored callers limit) opened.jar.locked.jar
+            (K.tells keeper) (K.tells opened.jar.vault.keeper)) }
+        ensures faults { IfOk result (λ opened. FaultsAre (K.faults keeper)
+            (journal_of opened.jar.locked.jar.seen) (K.faults opened.jar.vault.keeper)
+            opened.jar.vault.starved) }
+
         ensures looked { MatchResult result
             (λ opened. HasLooked (K.tells keeper) (K.tells opened.jar.vault.keeper) (K.leaves keeper)
             (K.leaves opened.jar.vault.keeper) (K.undisturbed keeper) (K.undisturbed opened.jar.vault.keeper))

@@ -4,10 +4,15 @@ ghost use Rattle.std.specs.Prelude.{◌≡◌, ◌≤◌, List, true, IfOk, IfEr
 ghost use Rattle.jar_types.specs.Journals.{is_well_keyed};
 ghost use Rattle.locked_jar.specs.Calls.{Answers, RefusesCall};
 ghost use Rattle.locked_jar.specs.History.{Lists-prop};
+ghost use Rattle.shared_jar.specs.Faults.{CountsFaults};
+ghost use Rattle.shared_jar.specs.Holding.{IsBeside, StaysBeside, StaysOver};
+ghost use Rattle.shared_jar.specs.Ending.{HasEnded};
 ghost use Rattle.shared_jar.specs.Together.{IsCaller, IsJar};
+ghost use Rattle.shared_jar.specs.Versions.{VersionsAreTurns};
 ghost use Rattle.std.proofs.Props.{props};
 ghost use Rattle.jar_types.specs.declared.row.Row.{Row as RowData};
 ghost use Rattle.locked_jar.specs.Owns.{is_batch_due};
+ghost use Rattle.locked_jar.specs.Passes.{HasSeen};
 ghost use Rattle.store_vault.specs.Flushing.{CountsFlush, FlushLeaves, FlushTells, IsFlush, batch_of};
 ghost use Rattle.store_vault.specs.Loading.{CountsLoad, IsLoad, IsLoadOver, rules_of};
 ghost use Rattle.store_vault.specs.Looking.{HasLooked};
@@ -24,7 +29,7 @@ use version_cells::{Cells, Pass};
 
 /// A jar on one thread: what lies under its lock, the vault, the words, and how many callers it was opened for.
 ///
-/// Its journal is legal, and its state is the journal's. This jar's own rule: docs/DEFINITIONS.md.
+/// Its journal is legal, its state is the journal's, and no batch is out. This jar's own rule: docs/DEFINITIONS.md.
 #[derive(Drop)]
 pub struct OwnJar<C: JarCore + Drop, K: Keeper + Drop> {
     pub locked: Locked<C>,
@@ -32,6 +37,7 @@ pub struct OwnJar<C: JarCore + Drop, K: Keeper + Drop> {
     pub cells: Cells,
     pub callers: u32,
     pub ghost is: { IsJar (rules_of vault.stored callers locked.jar.limit) cells locked.jar vault.cutter vault.owns } by { Prim.hlevel (props, Lists-prop) },
+    pub ghost ended: { HasEnded locked.jar vault.acked } by { Prim.hlevel props },
 }
 
 impl<C: JarCore + Drop, K: Keeper + Drop> OwnJar<C, K> {
@@ -61,6 +67,21 @@ impl<C: JarCore + Drop, K: Keeper + Drop> OwnJar<C, K> {
             self.old.cells pass.new }
         ensures same { (self.new.vault ≡ self.old.vault) × (self.new.cells ≡ self.old.cells)
             × (self.new.callers ≡ self.old.callers) × (self.new.locked.jar.limit ≡ self.old.locked.jar.limit) }
+
+        // What waits still waits beside the journal; the keeper still tells what is held beside it; and
+        // it tells of its faults.
+        ensures beside { StaysBeside
+            (rules_of self.old.vault.stored self.old.callers self.old.locked.jar.limit)
+            (rules_of self.new.vault.stored self.new.callers self.new.locked.jar.limit)
+            self.old.locked.jar self.new.locked.jar self.old.vault.kept self.new.vault.kept
+            self.old.vault.acked self.new.vault.acked }
+        ensures held { StaysOver
+            (rules_of self.old.vault.stored self.old.callers self.old.locked.jar.limit)
+            self.old.locked.jar self.new.locked.jar
+            (K.tells self.old.vault.keeper) (K.tells self.new.vault.keeper) }
+        ensures faults { CountsFaults self.old.locked.jar self.new.locked.jar
+            (K.faults self.old.vault.keeper) (K.faults self.new.vault.keeper)
+            self.old.vault.starved self.new.vault.starved }
     {
         self.locked.is_counted();
         self.locked.call(alloc, &self.cells, pass, op, now)
@@ -86,8 +107,24 @@ impl<C: JarCore + Drop, K: Keeper + Drop> OwnJar<C, K> {
             self.old.vault.starved self.new.vault.starved result }
 
         ensures same { (self.new.vault.stored ≡ self.old.vault.stored) × (self.new.vault.kept ≡ self.old.vault.kept)
-            × (self.new.vault.acked ≡ self.old.vault.acked)
-            × (self.new.cells ≡ self.old.cells) × (self.new.callers ≡ self.old.callers) }
+            × (self.new.vault.acked ≡ self.old.vault.acked) × (self.new.cells ≡ self.old.cells)
+            × (self.new.callers ≡ self.old.callers)
+            × (self.new.locked.jar.limit ≡ self.old.locked.jar.limit) }
+
+        // What waits still waits beside the journal; the keeper still tells what is held beside it; and
+        // it tells of its faults.
+        ensures beside { StaysBeside
+            (rules_of self.old.vault.stored self.old.callers self.old.locked.jar.limit)
+            (rules_of self.new.vault.stored self.new.callers self.new.locked.jar.limit)
+            self.old.locked.jar self.new.locked.jar self.old.vault.kept self.new.vault.kept
+            self.old.vault.acked self.new.vault.acked }
+        ensures held { K.undisturbed self.new.vault.keeper → StaysOver
+            (rules_of self.old.vault.stored self.old.callers self.old.locked.jar.limit)
+            self.old.locked.jar self.new.locked.jar
+            (K.tells self.old.vault.keeper) (K.tells self.new.vault.keeper) }
+        ensures faults { CountsFaults self.old.locked.jar self.new.locked.jar
+            (K.faults self.old.vault.keeper) (K.faults self.new.vault.keeper)
+            self.old.vault.starved self.new.vault.starved }
     {
         self.locked.is_counted();
         self.vault.load_next(alloc, &self.cells, &mut self.locked)
@@ -106,6 +143,10 @@ impl<C: JarCore + Drop, K: Keeper + Drop> OwnJar<C, K> {
             self.old.vault.cutter self.new.vault.cutter
             (record { changes = self.old.vault.kept; acked = self.old.vault.acked })
             (record { changes = self.new.vault.kept; acked = self.new.vault.acked }) result }
+        ensures never_back { IsBeside
+            (rules_of self.old.vault.stored self.old.callers self.old.locked.jar.limit)
+            self.old.locked.jar self.old.vault.kept self.old.vault.acked
+            → self.old.vault.acked ≤ self.new.vault.acked }
         ensures told { FlushTells (is_batch_due force self.old.locked.jar.state)
             (batch_of (record { changes = self.old.vault.kept; acked = self.old.vault.acked }) self.old.locked.jar)
             (K.tells self.old.vault.keeper) (K.tells self.new.vault.keeper) result }
@@ -119,11 +160,50 @@ impl<C: JarCore + Drop, K: Keeper + Drop> OwnJar<C, K> {
             self.old.vault.starved self.new.vault.starved result }
 
         ensures same { (self.new.vault.stored ≡ self.old.vault.stored)
-            × (self.new.cells ≡ self.old.cells) × (self.new.callers ≡ self.old.callers) }
+            × (self.new.cells ≡ self.old.cells) × (self.new.callers ≡ self.old.callers)
+            × (self.new.locked.jar.limit ≡ self.old.locked.jar.limit) }
+
+        // What waits still waits beside the journal; where it did, the keeper still tells what is held
+        // beside it; and it tells of its faults.
+        ensures beside { StaysBeside
+            (rules_of self.old.vault.stored self.old.callers self.old.locked.jar.limit)
+            (rules_of self.new.vault.stored self.new.callers self.new.locked.jar.limit)
+            self.old.locked.jar self.new.locked.jar self.old.vault.kept self.new.vault.kept
+            self.old.vault.acked self.new.vault.acked }
+        ensures held { IsBeside
+            (rules_of self.old.vault.stored self.old.callers self.old.locked.jar.limit)
+            self.old.locked.jar self.old.vault.kept self.old.vault.acked → StaysOver
+            (rules_of self.old.vault.stored self.old.callers self.old.locked.jar.limit)
+            self.old.locked.jar self.new.locked.jar
+            (K.tells self.old.vault.keeper) (K.tells self.new.vault.keeper) }
+        ensures faults { CountsFaults self.old.locked.jar self.new.locked.jar
+            (K.faults self.old.vault.keeper) (K.faults self.new.vault.keeper)
+            self.old.vault.starved self.new.vault.starved }
     {
         self.locked.is_counted();
         self.vault
             .flush(alloc, &self.cells, &mut self.locked, force)
+    }
+
+    /// Shows a pass all that stands in the journal, without a look. It takes no memory.
+    ///
+    /// What a cell's word then counts is the version that the jar's state tells of it. This jar's own
+    /// rule: docs/DEFINITIONS.md.
+    pub fn meet(&mut self, pass: &mut Pass)
+        requires pass { IsCaller
+            (rules_of self.old.vault.stored self.old.callers self.old.locked.jar.limit)
+            self.old.cells pass.old }
+
+        ensures pass { IsCaller
+            (rules_of self.old.vault.stored self.old.callers self.old.locked.jar.limit)
+            self.old.cells pass.new }
+        ensures seen { HasSeen self.old.locked.jar.seen pass.old pass.new }
+        ensures versions { VersionsAreTurns self.old.locked.jar }
+        ensures same { (self.new.locked.jar ≡ self.old.locked.jar)
+            × (self.new.vault ≡ self.old.vault) × (self.new.cells ≡ self.old.cells)
+            × (self.new.callers ≡ self.old.callers) }
+    {
+        self.locked.meet(&self.cells, pass);
     }
 
     /// Reads the version of a cell, by one load, which the pass notes. It takes no memory.
