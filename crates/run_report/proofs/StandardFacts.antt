@@ -1,12 +1,13 @@
 -- The texts of ops, replies, changes, items and reports, as docs/DEFINITIONS.md has the format, and the report of the
 -- smallest script, a set and a get of one cookie, as examples/smallest.report.json shows it. So that a wrong member, word
 -- or order in the specs does not check.
-use Rattle.std.proofs.Common.{◌≡◌, ℕ, List, [], ◌∷◌, ◌++◌, true, false, codes, None, Some, refl}
+use Rattle.std.proofs.Common.{◌≡◌, ℕ, List, [], ◌∷◌, ◌++◌, true, false, codes, None, Some, bytes_eq, count_by, map, refl}
 use Rattle.std.specs.Fmt.{digits}
 use Rattle.serde_json.specs.Written.{compact_text}
 use Rattle.serde_json.proofs.OnLiterals.{serde_json_on_literals}
 use Rattle.jar_values.specs.declared.attributes.Priority.TheVariants.{Low, Medium, High}
 use Rattle.jar_values.specs.declared.attributes.SameSite.TheVariants.{Unspecified, NoLimit, Lax as LaxSite, Strict as StrictSite}
+use Rattle.jar_types.specs.declared.ask_cause.AskCause.TheVariants as ask
 use Rattle.jar_types.specs.declared.change.Cause.TheVariants as cause
 use Rattle.jar_types.specs.declared.change.Change.{Change}
 use Rattle.jar_types.specs.declared.cookie.Cookie.{Cookie}
@@ -21,7 +22,8 @@ use Rattle.jar_types.specs.declared.op.Reply.{Reply}
 use Rattle.jar_types.specs.declared.op.Reply.TheVariants as reply
 use Rattle.jar_types.specs.declared.request.Request.{Request}
 use Rattle.jar_types.specs.declared.request.Context.TheVariants.{Strict, Lax, LaxUnsafe, Cross}
-use Rattle.run_report.specs.declared.item.Item.TheVariants.{At, Refused}
+use Rattle.run_report.specs.declared.item.Item.{Item}
+use Rattle.run_report.specs.declared.item.Item.TheVariants.{At, Asked, Reused, Refused}
 use Rattle.run_report.specs.declared.refusal_name.RefusalName.TheVariants as name
 use Rattle.run_report.specs.Changes.{cause_word}
 use Rattle.run_report.specs.Cookies.{priority_word, same_site_word}
@@ -142,20 +144,51 @@ two_actors : report_text (codes ".a.test" ∷ codes "b.test" ∷ []) ([] ∷ (At
 unfolding digits serde_json_on_literals
 two_actors = refl
 
--- items
-items : (compact_text (item_data (At 12)) ≡ codes "{\"at\":12}") × (compact_text (item_data (Refused name.Control)) ≡ codes "{\"refused\":\"Control\"}")
-unfolding digits serde_json_on_literals
-items = (refl, refl)
+-- items: of a step that made an entry, of a read that used again what it kept, of a step that was refused
+abbrev ItemIs : Item → List ℕ → Type 0
+ItemIs item text = compact_text (item_data item) ≡ text
 
--- the names of refusals: of a line, of a cookie, and of a jar that takes no more
+items : ItemIs (At 12) (codes "{\"at\":12}") × ItemIs (Reused (codes "_ga=GA1.2.3")) (codes "{\"reused\":\"_ga=GA1.2.3\"}")
+    × ItemIs (Reused []) (codes "{\"reused\":\"\"}") × ItemIs (Refused name.Control) (codes "{\"refused\":\"Control\"}")
+    × ItemIs (Refused name.OriginMismatch) (codes "{\"refused\":\"OriginMismatch\"}")
+unfolding digits serde_json_on_literals
+items = (refl, refl, refl, refl, refl)
+
+-- and of a read that asked, for each cause
+asked : ItemIs (Asked 8 ask.Other) (codes "{\"at\":8,\"cause\":\"other\"}") × ItemIs (Asked 8 ask.NoCell) (codes "{\"at\":8,\"cause\":\"no_cell\"}")
+    × ItemIs (Asked 8 ask.Cold) (codes "{\"at\":8,\"cause\":\"cold\"}")
+    × ItemIs (Asked 8 (ask.Late 61000)) (codes "{\"at\":8,\"cause\":\"late\",\"until\":61000}")
+    × ItemIs (Asked 8 (ask.Moved 0 3)) (codes "{\"at\":8,\"cause\":\"moved\",\"found\":3,\"kept\":0}")
+unfolding digits serde_json_on_literals
+asked = (refl, refl, refl, refl, refl)
+
+-- each of these texts stands there once, so that no two are alike
+abbrev StandOnce : List (List ℕ) → Type 0
+StandOnce texts = map (λ text. count_by (bytes_eq text) texts) texts ≡ map (λ _. 1) texts
+
+-- items of another form, cause or number have another text
+items_differ : StandOnce (map (λ item. compact_text (item_data item))
+    (At 8 ∷ Asked 8 ask.Other ∷ Asked 8 ask.NoCell ∷ Asked 8 ask.Cold ∷ Asked 9 ask.Cold ∷ Asked 8 (ask.Late 8) ∷ Asked 8 (ask.Late 9)
+    ∷ Asked 8 (ask.Moved 8 9) ∷ Asked 8 (ask.Moved 9 8) ∷ Reused [] ∷ Reused (codes "8") ∷ Refused name.Spent ∷ Refused name.OriginMismatch ∷ []))
+unfolding digits serde_json_on_literals
+items_differ = refl
+
+-- the names of refusals: of a line, of a cookie, of another origin, and of a jar that takes no more
 refusals : (refusal_word name.Control ≡ codes "Control") × (refusal_word name.Empty ≡ codes "Empty") × (refusal_word name.TooLong ≡ codes "TooLong")
     × (refusal_word name.DomainNotAscii ≡ codes "DomainNotAscii") × (refusal_word name.DomainSuffix ≡ codes "DomainSuffix")
     × (refusal_word name.DomainMismatch ≡ codes "DomainMismatch") × (refusal_word name.KeyMismatch ≡ codes "KeyMismatch")
     × (refusal_word name.SecureFromInsecure ≡ codes "SecureFromInsecure") × (refusal_word name.HttpOnlyFromScript ≡ codes "HttpOnlyFromScript")
     × (refusal_word name.NoneInsecure ≡ codes "NoneInsecure") × (refusal_word name.CrossSite ≡ codes "CrossSite")
     × (refusal_word name.PrefixSecure ≡ codes "PrefixSecure") × (refusal_word name.PrefixHost ≡ codes "PrefixHost")
-    × (refusal_word name.PrefixNameless ≡ codes "PrefixNameless") × (refusal_word name.Spent ≡ codes "Spent")
-refusals = (refl, refl, refl, refl, refl, refl, refl, refl, refl, refl, refl, refl, refl, refl, refl)
+    × (refusal_word name.PrefixNameless ≡ codes "PrefixNameless") × (refusal_word name.OriginMismatch ≡ codes "OriginMismatch")
+    × (refusal_word name.Spent ≡ codes "Spent")
+refusals = (refl, refl, refl, refl, refl, refl, refl, refl, refl, refl, refl, refl, refl, refl, refl, refl)
+
+refusals_differ : StandOnce (map refusal_word
+    (name.Control ∷ name.Empty ∷ name.TooLong ∷ name.DomainNotAscii ∷ name.DomainSuffix ∷ name.DomainMismatch ∷ name.KeyMismatch
+    ∷ name.SecureFromInsecure ∷ name.HttpOnlyFromScript ∷ name.NoneInsecure ∷ name.CrossSite ∷ name.PrefixSecure ∷ name.PrefixHost
+    ∷ name.PrefixNameless ∷ name.OriginMismatch ∷ name.Spent ∷ []))
+refusals_differ = refl
 
 -- an op, and a reply, is written so
 abbrev OpIs : Op → List ℕ → Type 0

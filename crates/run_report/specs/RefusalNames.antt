@@ -1,5 +1,6 @@
--- The names by which a step is refused: those of its line, those of the cookie that it makes, and that
--- of a jar that takes no more entries. This jar's own rule: docs/DEFINITIONS.md.
+-- The names by which a step is refused: those of its line, those of the cookie that it makes, that of
+-- another origin than the document's, and that of a jar that takes no more entries. This jar's own
+-- rule: docs/DEFINITIONS.md.
 use Rattle.std.specs.Prelude.{ℕ, List, codes}
 use Rattle.set_cookie_line.specs.declared.line.LineRefusal.{LineRefusal}
 use Rattle.set_cookie_line.specs.declared.line.LineRefusal.TheVariants as line
@@ -46,4 +47,5 @@ refusal_word name.CrossSite = codes "CrossSite"
 refusal_word name.PrefixSecure = codes "PrefixSecure"
 refusal_word name.PrefixHost = codes "PrefixHost"
 refusal_word name.PrefixNameless = codes "PrefixNameless"
+refusal_word name.OriginMismatch = codes "OriginMismatch"
 refusal_word name.Spent = codes "Spent"

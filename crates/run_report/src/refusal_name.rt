@@ -1,5 +1,5 @@
-//! The names by which a step is refused: those of its line, those of the cookie that it makes, and
-//! that of a jar that takes no more entries.
+//! The names by which a step is refused: those of its line, those of the cookie that it makes, that
+//! of another origin than the document's, and that of a jar that takes no more entries.
 
 ghost use Rattle.std.specs.Prelude.{◌≡◌, IfOk};
 ghost use Rattle.canonical_cookie.specs.declared.refusal.CookieRefusal.TheVariants as cookie;
@@ -10,11 +10,12 @@ use canonical_cookie::CookieRefusal;
 use jar_values::NoMemory;
 use set_cookie_line::LineRefusal;
 
-/// The name by which a step is refused, in the order in which they apply.
+/// The name by which a step is refused.
 ///
-/// Of the line, as [`read_line`](set_cookie_line::read_line) names them; of the cookie, as
-/// [`make`](canonical_cookie::make) does; and `Spent`, where callers have all the entries that they
-/// may have.
+/// Of the line, in the order of [`read_line`](set_cookie_line::read_line); of the cookie, in that of
+/// [`make`](canonical_cookie::make); `OriginMismatch`, where a renderer's URL is of another origin
+/// than its document, which is tried before the line; and `Spent`, where callers have all the entries
+/// that they may have.
 ///
 /// This jar's own rule: docs/DEFINITIONS.md.
 #[derive(Clone, Copy)]
@@ -33,6 +34,7 @@ pub enum RefusalName {
     PrefixSecure,
     PrefixHost,
     PrefixNameless,
+    OriginMismatch,
     Spent,
 }
 
@@ -90,6 +92,7 @@ impl RefusalName {
             RefusalName::PrefixSecure => "PrefixSecure",
             RefusalName::PrefixHost => "PrefixHost",
             RefusalName::PrefixNameless => "PrefixNameless",
+            RefusalName::OriginMismatch => "OriginMismatch",
             RefusalName::Spent => "Spent",
         }
     }

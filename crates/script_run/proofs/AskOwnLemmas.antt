@@ -1,61 +1,56 @@
--- What a step asks: a Set sets a cookie that has the key of its host and can be stored, and so each
--- call of a journal does.
-use Rattle.std.proofs.Common.{◌≡◌, ◌≤◌, ℕ, zero, suc, List, [], ◌∷◌, Bool, true, false, Option, None, Some, length, slice_get, refl, ap, subst}
-use Rattle.std.specs.Prelude.{◌&&◌, nat_le, option_to_list, Result, Ok, Err}
-use Rattle.std.specs.List.{AllByRecursion, list_all}
+-- What a turn asks: something, and an op that it asks is well keyed; a cookie that it sets can be
+-- stored.
+use Rattle.std.proofs.Common.{◌≡◌, ◌≤◌, ℕ, zero, suc, List, [], ◌∷◌, ◌++◌, Bool, true, false, Option, None, Some, slice_get, refl, ap, sym, subst}
+use Rattle.std.specs.Prelude.{◌&&◌, map, is_some, IfSome, IsSome, option_to_list, Result, Ok, Err, if◌then◌else◌}
+use Rattle.std.specs.List.{list_all}
+use Rattle.std.proofs.lemmas.Slice.Eq.{bytes_eq-Decides}
 use Rattle.jar_values.specs.declared.moment.TheConstants.{MAX_MOMENT}
 use Rattle.jar_types.specs.declared.cookie.Cookie.{Cookie}
-use Rattle.jar_types.specs.declared.entry.Entry.TheVariants.{Jar}
-use Rattle.jar_types.specs.declared.entry.Event.TheVariants.{Call as CallEvent}
-use Rattle.jar_types.specs.declared.entry.Own.{Own}
-use Rattle.jar_types.specs.declared.jar_core.CoreRefusal.{CoreRefusal}
-use Rattle.jar_types.specs.declared.jar_core.CoreRefusal.TheVariants.{Pending, NotYet, NoMemory}
 use Rattle.jar_types.specs.declared.op.Op.{Op}
 use Rattle.jar_types.specs.declared.op.Op.TheVariants.{Bind, Set, Get, Delete, All, Clear, Listen, Changes, Unlisten, Post, Hear}
+use Rattle.jar_types.specs.declared.request.Context.{Context}
 use Rattle.jar_types.specs.declared.row.Row.{Row}
-use Rattle.jar_types.specs.Journals.{Rules, key_at}
+use Rattle.jar_types.specs.Journals.{Rules, is_well_keyed, key_at}
 use Rattle.jar_types.specs.Rows.{is_sound_row, row_of}
-use Rattle.jar_types.specs.Steps.{entry_of, own_may_stand}
-use Rattle.jar_types.specs.Waits.{op_waits}
 use Rattle.public_suffix.specs.Rule.{SuffixRule}
 use Rattle.set_cookie_line.specs.declared.line.Line.{Line}
 use Rattle.set_cookie_line.specs.declared.line.LineRefusal.{LineRefusal}
 use Rattle.set_cookie_line.specs.Line.{read_line}
 use Rattle.site_match.specs.declared.fetch.FetchAsk.{FetchAsk}
-use Rattle.site_match.specs.Contexts.{context_of}
+use Rattle.site_match.specs.declared.place.Place.{Place}
+use Rattle.site_match.specs.Contexts.{context_of, fetch_context}
 use Rattle.canonical_cookie.specs.declared.refusal.CookieRefusal.{CookieRefusal}
 use Rattle.canonical_cookie.specs.Laws.{IsMade}
 use Rattle.canonical_cookie.specs.Making.{made}
 use Rattle.canonical_cookie.proofs.MadeLemmas.{made_parts}
 use Rattle.canonical_cookie.proofs.SoundLemmas.{row_of_made}
+use Rattle.restricted_manager.specs.declared.write.WriteRefusal.TheVariants as write
+use Rattle.restricted_manager.specs.Documents.{asked_place, is_same_origin}
+use Rattle.restricted_manager.specs.Writes.{write_of_cookie, write_of_line}
 use Rattle.script_text.specs.declared.actor.Actor.{Actor}
 use Rattle.script_text.specs.declared.script.Script.{Script}
 use Rattle.script_text.specs.declared.step.Step.{Step}
 use Rattle.script_text.specs.declared.step.What.{What}
 use Rattle.script_text.specs.declared.step.What.TheVariants as what
-use Rattle.script_text.specs.Admitted.{IsAdmitted, IsPlaced, IsPlacedWhat}
-use Rattle.script_text.specs.Deadlocks.{steps_at}
-use Rattle.stored_law.specs.Keeping.{AllStorable, EntryIsStorable, IsStorable, OpIsStorable}
-use Rattle.stored_law.proofs.FoundLemmas.{all_append}
+use Rattle.script_text.specs.Admitted.{IsAdmitted, IsAdmittedActor, IsPlaced, IsPlacedView, IsPlacedWhat, MayStand, Where, place_of_step}
+use Rattle.script_text.specs.Placed.{View}
+use Rattle.stored_law.specs.Keeping.{IsStorable}
 use Rattle.script_run.specs.declared.ask.Ask.{Ask}
 use Rattle.script_run.specs.declared.ask.Ask.TheVariants as ask
-use Rattle.script_run.specs.Ask.{ask_at, ask_of, ask_of_cookie, ask_of_line}
+use Rattle.script_run.specs.Ask.{MayBeAsked, ask_at, ask_of, ask_of_cookie, ask_of_fetch, ask_of_line, ask_of_read, ask_of_renderer, ask_of_write, ask_to_bind}
 use Rattle.script_run.specs.Rounds.{rules_of}
-use Rattle.script_run.specs.Runs.{Run, asked, called_where, called_within, did, items_at, next_step, tried_step, want_of}
-use Rattle.script_run.specs.StoredRuns.{AreTimed, IsTimed}
-use Rattle.script_run.proofs.BuiltLemmas.{actor_step}
-use Rattle.script_run.proofs.ClosedLemmas.{Closed}
+use Rattle.script_run.specs.Turns.{Turn, binds, does, turn_now, turns_at, turns_before, turns_where, view_at, view_where}
 use Rattle.script_run.proofs.KeyLemmas.{made_keyed}
 
--- ---- what a step asks
+-- ---- what a turn asks
 
--- what is known of an op that a step asks at a moment: a cookie that it sets has the key of its
--- host, and can be stored where the moment is one
+-- what is known of an op that a turn asks at a moment: a cookie that it sets has the key of its
+-- host, and can be stored where the moment is one; and one that it takes away has the key of its host
 abbrev pub OpIsOwn : Rules → ℕ → Op → Type 0
 OpIsOwn r now (Bind key) = Unit {0}
 OpIsOwn r now (Set cookie script secure) = (cookie.key ≡ key_at r cookie.host) × (now ≤ MAX_MOMENT → IsStorable cookie)
 OpIsOwn r now (Get request) = Unit {0}
-OpIsOwn r now (Delete key id) = Unit {0}
+OpIsOwn r now (Delete key id) = key ≡ key_at r id.host
 OpIsOwn r now All = Unit {0}
 OpIsOwn r now Clear = Unit {0}
 OpIsOwn r now (Listen scope) = Unit {0}
@@ -64,9 +59,9 @@ OpIsOwn r now (Unlisten number) = Unit {0}
 OpIsOwn r now Post = Unit {0}
 OpIsOwn r now (Hear actor n) = Unit {0}
 
--- what a step asks, where it asks an op, is known
+-- a turn asks something, and where it is an op, that is known
 abbrev pub AskIsOwn : Rules → ℕ → Option Ask → Type 0
-AskIsOwn r now None = Unit {0}
+AskIsOwn r now None = ⊥
 AskIsOwn r now (Some (ask.Op op)) = OpIsOwn r now op
 AskIsOwn r now (Some (ask.Refused name)) = Unit {0}
 
@@ -83,26 +78,35 @@ made_storable rules c is =
       creation = subst (λ (d : Cookie). d.creation ≤ MAX_MOMENT) parts.1 is.moment;
     }
 
-cookie_own : (script : Script) (hosts : List (List ℕ)) (fetch : FetchAsk) (text : List ℕ) (line : Line) (now : ℕ) (o : Result Cookie CookieRefusal)
-    → read_line text ≡ Ok line → IsPlaced script.suffixes fetch.place → made script.suffixes line fetch.place (context_of fetch) false now ≡ o
-    → AskIsOwn (rules_of script hosts) now (Some (ask_of_cookie fetch o))
-cookie_own script hosts fetch text line now (Ok c) read place is = (
-  made_keyed script.suffixes line fetch.place (context_of fetch) false now place.0 c place.1 is,
+-- a cookie that a read line makes at a place, by a script or by none
+made_own : (script : Script) (hosts : List (List ℕ)) (place : Place) (text : List ℕ) (line : Line) (context : Context) (by_script secure : Bool) (now : ℕ) (c : Cookie)
+    → read_line text ≡ Ok line → IsPlaced script.suffixes place → made script.suffixes line place context by_script now ≡ Ok c
+    → OpIsOwn (rules_of script hosts) now (Set c by_script secure)
+made_own script hosts place text line context by_script secure now c read at is = (
+  made_keyed script.suffixes line place context by_script now at.0 c at.1 is,
   λ timed.
       made_storable script.suffixes c (record {
-        url = place.0;
+        url = at.0;
         text = text;
-        place = fetch.place;
+        place = place;
         line = line;
-        context = context_of fetch;
-        script = false;
+        context = context;
+        script = by_script;
         now = now;
-        at = place.1;
+        at = at.1;
         read = read;
         moment = timed;
         makes = is;
       }),
 )
+
+-- ---- what a fetch asks
+
+cookie_own : (script : Script) (hosts : List (List ℕ)) (fetch : FetchAsk) (text : List ℕ) (line : Line) (now : ℕ) (o : Result Cookie CookieRefusal)
+    → read_line text ≡ Ok line → IsPlaced script.suffixes fetch.place → made script.suffixes line fetch.place (context_of fetch) false now ≡ o
+    → AskIsOwn (rules_of script hosts) now (Some (ask_of_cookie fetch o))
+cookie_own script hosts fetch text line now (Ok c) read place is =
+    made_own script hosts fetch.place text line (context_of fetch) false false now c read place is
 cookie_own script hosts fetch text line now (Err e) read place is = tt
 
 line_own : (script : Script) (hosts : List (List ℕ)) (fetch : FetchAsk) (text : List ℕ) (now : ℕ) (o : Result Line LineRefusal) → read_line text ≡ o
@@ -111,92 +115,153 @@ line_own script hosts fetch text now (Ok line) read place =
     cookie_own script hosts fetch text line now (made script.suffixes line fetch.place (context_of fetch) false now) read place refl
 line_own script hosts fetch text now (Err e) read place = tt
 
-what_own : (script : Script) (hosts : List (List ℕ)) (now : ℕ) (w : What) → IsPlacedWhat script.suffixes w
-    → AskIsOwn (rules_of script hosts) now (ask_at script.suffixes now w)
-what_own script hosts now (what.Set fetch line) placed = line_own script hosts fetch line now (read_line line) refl placed.place
-what_own script hosts now (what.Get fetch) placed = tt
-what_own script hosts now (what.Delete host name path) placed = tt
-what_own script hosts now what.All placed = tt
-what_own script hosts now what.Clear placed = tt
-what_own script hosts now (what.Listen fetch name) placed = tt
-what_own script hosts now (what.Changes listener) placed = tt
-what_own script hosts now (what.Unlisten listener) placed = tt
-what_own script hosts now what.Post placed = tt
-what_own script hosts now (what.Hear actor n) placed = tt
-what_own script hosts now (what.Read url) placed = tt
-what_own script hosts now (what.Write line url) placed = tt
+-- none renders that is to
+clash : (b : Bool) → b ≡ false → b ≡ true → ⊥
+clash true isnt is = absurd cc
+clash false isnt is = absurd cc
 
-pub step_own : (script : Script) (hosts : List (List ℕ)) (a i : ℕ) (step : Step) → IsAdmitted script → slice_get (steps_at script.actors a) i ≡ Some step
-    → AskIsOwn (rules_of script hosts) step.now (ask_of script.suffixes step)
-step_own script hosts a i step admitted is =
-    let there = actor_step (slice_get script.actors a) i step is in
-    what_own script hosts step.now step.what ((admitted.each_actor a there.0 there.1).step_places i step there.2)
+fetch_own : (script : Script) (hosts : List (List ℕ)) (at : Where) (now : ℕ) (w : What) → at.renders ≡ false → MayStand at w → IsPlacedWhat script.suffixes w
+    → AskIsOwn (rules_of script hosts) now (ask_of_fetch script.suffixes now w)
+fetch_own script hosts at now (what.Set fetch line) none may placed = line_own script hosts fetch line now (read_line line) refl placed.place
+fetch_own script hosts at now (what.Get fetch) none may placed = tt
+fetch_own script hosts at now (what.Delete host name path) none may placed = refl
+fetch_own script hosts at now what.All none may placed = tt
+fetch_own script hosts at now what.Clear none may placed = tt
+fetch_own script hosts at now (what.Listen fetch name) none may placed = tt
+fetch_own script hosts at now (what.Changes listener) none may placed = tt
+fetch_own script hosts at now (what.Unlisten listener) none may placed = tt
+fetch_own script hosts at now what.Post none may placed = tt
+fetch_own script hosts at now (what.Hear actor n) none may placed = tt
+fetch_own script hosts at now (what.Read url) none may placed = absurd (clash at.renders none may)
+fetch_own script hosts at now (what.Write line url) none may placed = absurd (clash at.renders none may)
 
--- ---- its moment
+-- ---- what a renderer asks
 
-one_of : {X : Type 0} → (P : X → Type 0) (xs : List X) (i : ℕ) (x : X) → AllByRecursion P xs → slice_get xs i ≡ Some x → P x
-one_of P [] i x all e = absurd cc
-one_of P (y ∷ ys) zero x all e =
-    let is : y ≡ x = cc in subst P is all.0
-one_of P (y ∷ ys) (suc i) x all e = one_of P ys i x all.1 e
+read_own : (r : Rules) (now : ℕ) (sees : View) (place : Place) (same : Bool) → AskIsOwn r now (Some (ask_of_read sees place same))
+read_own r now sees place true = tt
+read_own r now sees place false = tt
 
-step_timed : (script : Script) (a i : ℕ) (step : Step) → IsTimed script → slice_get (steps_at script.actors a) i ≡ Some step → step.now ≤ MAX_MOMENT
-step_timed script a i step timed is =
-    let there = actor_step (slice_get script.actors a) i step is in
-    let steps = one_of (λ (actor : Actor). AreTimed actor.steps) script.actors a there.0 timed.steps there.1 in
-    one_of (λ (s : Step). s.now ≤ MAX_MOMENT) there.0.steps i step steps there.2
+written_own : (script : Script) (hosts : List (List ℕ)) (site : Option Place) (place : Place) (text : List ℕ) (line : Line) (now : ℕ) (o : Result Cookie CookieRefusal)
+    → read_line text ≡ Ok line → IsPlaced script.suffixes place → made script.suffixes line place (fetch_context place site) true now ≡ o
+    → AskIsOwn (rules_of script hosts) now (Some (ask_of_write (write_of_cookie place o)))
+written_own script hosts site place text line now (Ok c) read at is =
+    made_own script hosts place text line (fetch_context place site) true false now c read at is
+written_own script hosts site place text line now (Err e) read at is = tt
 
--- ---- each call of a journal stores what can be stored
+write_own : (script : Script) (hosts : List (List ℕ)) (site : Option Place) (place : Place) (text : List ℕ) (now : ℕ) (o : Result Line LineRefusal)
+    → read_line text ≡ o → IsPlaced script.suffixes place
+    → AskIsOwn (rules_of script hosts) now (Some (ask_of_write (write_of_line script.suffixes site place now o)))
+write_own script hosts site place text now (Ok line) read at =
+    written_own script hosts site place text line now (made script.suffixes line place (fetch_context place site) true now) read at refl
+write_own script hosts site place text now (Err e) read at = tt
 
-own_storable : (r : Rules) (now : ℕ) (op : Op) → now ≤ MAX_MOMENT → OpIsOwn r now op → OpIsStorable now op
-own_storable r now (Bind key) timed own = tt
-own_storable r now (Set cookie script secure) timed own = own.1 timed
-own_storable r now (Get request) timed own = timed
-own_storable r now (Delete key id) timed own = tt
-own_storable r now All timed own = tt
-own_storable r now Clear timed own = tt
-own_storable r now (Listen scope) timed own = tt
-own_storable r now (Changes number) timed own = tt
-own_storable r now (Unlisten number) timed own = tt
-own_storable r now Post timed own = tt
-own_storable r now (Hear actor n) timed own = tt
+-- a write, whose origin is the document's or isn't
+origin_own : (script : Script) (hosts : List (List ℕ)) (site : Option Place) (place : Place) (text : List ℕ) (now : ℕ) (same : Bool) → IsPlaced script.suffixes place
+    → AskIsOwn (rules_of script hosts) now
+    (Some (ask_of_write (if same then write_of_line script.suffixes site place now (read_line text) else Err write.OriginMismatch)))
+origin_own script hosts site place text now true at = write_own script hosts site place text now (read_line text) refl at
+origin_own script hosts site place text now false at = tt
 
--- the journal of a run so far
-abbrev pub IsStored : Run → Type 0
-IsStored r = AllStorable r.journal
+-- the place of a renderer's step is that of a URL
+asked_placed : (rules : List SuffixRule) (document : Place) (url : Option Place) → IsPlaced rules document → IfSome url (IsPlaced rules)
+    → IsPlaced rules (asked_place document url)
+asked_placed rules document None own other = own
+asked_placed rules document (Some place) own other = other
 
-did_stored : (may : Bool) (r : Run) (own : Own) → IsStored r → IsStored (did may r own)
-did_stored true r own all = all_append EntryIsStorable r.journal (Jar own ∷ []) all (tt, tt)
-did_stored false r own all = all
+renderer_own : (script : Script) (hosts : List (List ℕ)) (at : Where) (sees : View) (now : ℕ) (w : What) → at.renders ≡ true → MayStand at w
+    → IsPlaced script.suffixes sees.0 → IsPlacedWhat script.suffixes w → AskIsOwn (rules_of script hosts) now (ask_of_renderer script.suffixes sees now w)
+renderer_own script hosts at sees now (what.Set fetch line) some may own placed = absurd (clash at.renders may some)
+renderer_own script hosts at sees now (what.Get fetch) some may own placed = absurd (clash at.renders may some)
+renderer_own script hosts at sees now (what.Delete host name path) some may own placed = absurd (clash at.renders may some)
+renderer_own script hosts at sees now what.All some may own placed = absurd (clash at.renders may some)
+renderer_own script hosts at sees now what.Clear some may own placed = absurd (clash at.renders may some)
+renderer_own script hosts at sees now (what.Listen fetch name) some may own placed = tt
+renderer_own script hosts at sees now (what.Changes listener) some may own placed = tt
+renderer_own script hosts at sees now (what.Unlisten listener) some may own placed = tt
+renderer_own script hosts at sees now what.Post some may own placed = tt
+renderer_own script hosts at sees now (what.Hear actor n) some may own placed = tt
+renderer_own script hosts at sees now (what.Read url) some may own placed =
+    let place = asked_place sees.0 url in read_own (rules_of script hosts) now sees place (is_same_origin place sees.0)
+renderer_own script hosts at sees now (what.Write line url) some may own placed =
+    let place = asked_place sees.0 url in
+    origin_own script hosts sees.1 place line now (is_same_origin place sees.0) (asked_placed script.suffixes sees.0 url own placed)
 
-where_stored : (o : Option CoreRefusal) (a : ℕ) (r : Run) (now : ℕ) (op : Op) → OpIsStorable now op → IsStored r → IsStored (called_where o a r now op)
-where_stored (Some (Pending w)) a r now op can all = did_stored (own_may_stand r.state (want_of w)) r (want_of w) all
-where_stored (Some (NotYet found)) a r now op can all = all
-where_stored (Some NoMemory) a r now op can all = all
-where_stored None a r now op can all = all_append EntryIsStorable r.journal (entry_of r.state (CallEvent a now op) ∷ []) all (can, tt)
+-- ---- what an actor asks
 
-within_stored : (full : Bool) (a : ℕ) (r : Run) (now : ℕ) (op : Op) → OpIsStorable now op → IsStored r → IsStored (called_within full a r now op)
-within_stored true a r now op can all = all
-within_stored false a r now op can all = where_stored (op_waits r.state op) a r now op can all
+at_own : (script : Script) (hosts : List (List ℕ)) (at : Where) (sees : Option View) (now : ℕ) (w : What) → at.renders ≡ is_some sees → MayStand at w
+    → IfSome sees (IsPlacedView script.suffixes) → IsPlacedWhat script.suffixes w → AskIsOwn (rules_of script hosts) now (ask_at script.suffixes sees now w)
+at_own script hosts at None now w same may view placed = fetch_own script hosts at now w same may placed
+at_own script hosts at (Some sees) now w same may view placed = renderer_own script hosts at sees now w same may view.document placed
 
-asked_stored : (script : Script) (hosts : List (List ℕ)) (a : ℕ) (r : Run) (now : ℕ) (o : Option Ask) → now ≤ MAX_MOMENT → AskIsOwn (rules_of script hosts) now o
-    → IsStored r → IsStored (asked script a r now o)
-asked_stored script hosts a r now None timed own all = all
-asked_stored script hosts a r now (Some (ask.Op op)) timed own all =
-    within_stored (nat_le script.limit r.state.calls) a r now op (own_storable (rules_of script hosts) now op timed own) all
-asked_stored script hosts a r now (Some (ask.Refused name)) timed own all = all
+bind_own : (r : Rules) (now : ℕ) (sees : Option View) → IsSome sees → AskIsOwn r now (ask_to_bind sees)
+bind_own r now None some = absurd cc
+bind_own r now (Some sees) some = tt
 
-step_stored : (script : Script) (hosts : List (List ℕ)) (a : ℕ) (r : Run) (o : Option Step) → IsAdmitted script → IsTimed script → next_step script a r ≡ o
-    → IsStored r → IsStored (tried_step script a r o)
-step_stored script hosts a r None admitted timed is all = all
-step_stored script hosts a r (Some step) admitted timed is all =
-    let i = length (items_at r a) in
-    asked_stored script hosts a r step.now (ask_of script.suffixes step) (step_timed script a i step timed is) (step_own script hosts a i step admitted is) all
+-- a turn of an actor that sees this and has these steps: a Bind only where it renders
+abbrev pub IsTurn : Option View → List Step → Turn → Type 0
+IsTurn sees steps binds = IsSome sees
+IsTurn sees steps (does step) = (s : ℕ) × (slice_get steps s ≡ Some step)
 
--- tries keep that, the jar's own entries, and its batches
-pub stored_closed : (script : Script) (hosts : List (List ℕ)) → IsAdmitted script → IsTimed script → Closed script IsStored
-stored_closed script hosts admitted timed = record {
-  tries = λ a r low all. step_stored script hosts a r (next_step script a r) admitted timed refl all;
-  own = λ r own all. all_append EntryIsStorable r.journal (Jar own ∷ []) all (tt, tt);
-  batch = λ r pending kept all. all;
-}
+one_before : (sees : Option View) (step : Step) (steps : List Step) (turn : Turn) → IsTurn sees steps turn → IsTurn sees (step ∷ steps) turn
+one_before sees step steps binds is = is
+one_before sees step steps (does other) is = (suc is.0, is.1)
+
+step_turn : (sees : Option View) (steps : List Step) (i : ℕ) (turn : Turn) → slice_get (map does steps) i ≡ Some turn → IsTurn sees steps turn
+step_turn sees [] i turn e = absurd cc
+step_turn sees (step ∷ steps) zero turn e =
+    let is : does step ≡ turn = cc in subst (IsTurn sees (step ∷ steps)) is (zero, refl)
+step_turn sees (step ∷ steps) (suc i) turn e = one_before sees step steps turn (step_turn sees steps i turn e)
+
+seen_turn : (sees : Option View) (steps : List Step) (i : ℕ) (turn : Turn) → slice_get (turns_before sees ++ map does steps) i ≡ Some turn → IsTurn sees steps turn
+seen_turn None steps i turn e = step_turn None steps i turn e
+seen_turn (Some sees) steps zero turn e =
+    let is : binds ≡ turn = cc in subst (IsTurn (Some sees) steps) is refl
+seen_turn (Some sees) steps (suc i) turn e = step_turn (Some sees) steps i turn e
+
+-- a turn of an actor is a turn of one that there is
+pub actor_turn : (o : Option Actor) (i : ℕ) (turn : Turn) → slice_get (turns_where o) i ≡ Some turn
+    → (actor : Actor) × (o ≡ Some actor) × IsTurn actor.view actor.steps turn
+actor_turn None i turn is = absurd cc
+actor_turn (Some actor) i turn is = (actor, refl, seen_turn actor.view actor.steps i turn is)
+
+actor_own : (script : Script) (hosts : List (List ℕ)) (actor : Actor) (turn : Turn) → IsAdmittedActor script actor → IsTurn actor.view actor.steps turn
+    → AskIsOwn (rules_of script hosts) (turn_now script turn) (ask_of script.suffixes actor.view turn)
+actor_own script hosts actor binds one is = bind_own (rules_of script hosts) script.start actor.view is
+actor_own script hosts actor (does step) one is =
+    at_own script hosts (place_of_step script actor is.0) actor.view step.now step.what refl (one.steps_stand is.0 step is.1) one.view_places
+    (one.step_places is.0 step is.1)
+
+pub turn_own : (script : Script) (hosts : List (List ℕ)) (a i : ℕ) (turn : Turn) → IsAdmitted script → slice_get (turns_at script.actors a) i ≡ Some turn
+    → AskIsOwn (rules_of script hosts) (turn_now script turn) (ask_of script.suffixes (view_at script.actors a) turn)
+turn_own script hosts a i turn admitted is =
+    let there = actor_turn (slice_get script.actors a) i turn is in
+    subst (λ o. AskIsOwn (rules_of script hosts) (turn_now script turn) (ask_of script.suffixes (view_where o) turn)) (sym there.1)
+    (actor_own script hosts there.0 turn (admitted.each_actor a there.0 there.1) there.2)
+
+-- ---- what is asked is well keyed
+
+own_keyed : (r : Rules) (now : ℕ) (op : Op) → OpIsOwn r now op → is_well_keyed r op ≡ true
+own_keyed r now (Bind key) own = refl
+own_keyed r now (Set cookie script secure) own = (bytes_eq-Decides cookie.key (key_at r cookie.host)).1 own.0
+own_keyed r now (Get request) own = refl
+own_keyed r now (Delete key id) own = (bytes_eq-Decides key (key_at r id.host)).1 own
+own_keyed r now All own = refl
+own_keyed r now Clear own = refl
+own_keyed r now (Listen scope) own = refl
+own_keyed r now (Changes number) own = refl
+own_keyed r now (Unlisten number) own = refl
+own_keyed r now Post own = refl
+own_keyed r now (Hear actor n) own = refl
+
+own_may_be_asked : (r : Rules) (now : ℕ) (o : Option Ask) → AskIsOwn r now o → MayBeAsked r o
+own_may_be_asked r now None own = own
+own_may_be_asked r now (Some (ask.Op op)) own = own_keyed r now op own
+own_may_be_asked r now (Some (ask.Refused name)) own = tt
+
+-- a turn asks something, and an op that it asks is well keyed
+pub turn_may_be_asked : (script : Script) (hosts : List (List ℕ)) (a i : ℕ) (turn : Turn) → IsAdmitted script
+    → slice_get (turns_at script.actors a) i ≡ Some turn
+    → MayBeAsked (rules_of script hosts) (ask_of script.suffixes (view_at script.actors a) turn)
+turn_may_be_asked script hosts a i turn admitted is =
+    own_may_be_asked (rules_of script hosts) (turn_now script turn) (ask_of script.suffixes (view_at script.actors a) turn)
+    (turn_own script hosts a i turn admitted is)

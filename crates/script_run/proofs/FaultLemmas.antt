@@ -1,22 +1,33 @@
--- How many faults a journal tells of behind each entry, and how often the keeper's count rose.
-use Rattle.std.proofs.Common.{◌≡◌, ◌≤◌, ◌+◌, ℕ, suc, List, [], ◌∷◌, ◌++◌, ◌||◌, Bool, true, false, cond, Option, None, Some, length, refl, ap, sym, ◌∙◌, arith, subst}
-use Rattle.std.specs.Prelude.{Result, Ok, Err, IfOk, OnOk, is_err}
+-- How many faults a journal tells of behind each entry of a run, and the status of its report.
+use Rattle.std.proofs.Common.{◌≡◌, ◌≤◌, ◌+◌, ℕ, zero, suc, List, [], ◌∷◌, ◌++◌, ◌||◌, Bool, true, false, cond, Option, None, Some, length, refl, ap, ◌∙◌, arith}
+use Rattle.std.specs.Prelude.{nat_le, Result, Ok, Err, IfOk, OnOk, is_err}
 use Rattle.std.specs.List.{list_any}
 use Rattle.std.proofs.lemmas.List.Sums.{sum_by-append, sum_by-cons}
-use Rattle.jar_edge.specs.Faults.{Rose}
 use Rattle.jar_types.specs.declared.entry.Entry.{Entry}
 use Rattle.jar_types.specs.declared.entry.Event.{Event}
-use Rattle.jar_types.specs.declared.entry.Event.TheVariants.{Jar as JarEvent}
+use Rattle.jar_types.specs.declared.entry.Event.TheVariants.{Call as CallEvent, Jar as JarEvent}
 use Rattle.jar_types.specs.declared.entry.Own.{Own}
 use Rattle.jar_types.specs.declared.entry.Own.TheVariants.{Begun, Whole, Taken, Acked, CommitLost}
+use Rattle.jar_types.specs.declared.jar_core.Awaited.{Awaited}
+use Rattle.jar_types.specs.declared.jar_core.Awaited.TheVariants as awaited
+use Rattle.jar_types.specs.declared.jar_core.CoreRefusal.{CoreRefusal}
+use Rattle.jar_types.specs.declared.jar_core.CoreRefusal.TheVariants.{Pending, NotYet, NoMemory}
+use Rattle.jar_types.specs.declared.op.Op.{Op}
 use Rattle.jar_types.specs.Loads.{next_key}
 use Rattle.jar_types.specs.Steps.{entry_of, own_may_stand}
+use Rattle.jar_types.specs.Waits.{op_waits}
+use Rattle.script_text.specs.declared.script.Script.{Script}
+use Rattle.shared_jar.specs.Faults.{faults_in, is_fault, is_own_fault}
+use Rattle.script_run.specs.declared.ask.Ask.{Ask}
+use Rattle.script_run.specs.declared.ask.Ask.TheVariants as ask
+use Rattle.script_run.specs.declared.purpose.Purpose.{Purpose}
 use Rattle.script_run.specs.declared.status.TheConstants.{DONE, STORE_FAULT}
 use Rattle.script_run.specs.Answers.{status_of, status_where}
-use Rattle.script_run.specs.Faults.{RoseTimes, faults_in, is_fault, is_own_fault}
-use Rattle.script_run.specs.Rounds.{Giving, committed, ended, load_gave, loaded, loaded_next, taken}
-use Rattle.script_run.specs.Runs.{Run, did, happened}
-use Rattle.script_run.specs.Services.{CountsCommit, CountsFaults, CountsLoad}
+use Rattle.script_run.specs.Ask.{ask_of}
+use Rattle.script_run.specs.Reads.{Way, reuses, calls, way_of}
+use Rattle.script_run.specs.Rounds.{Giving, committed_where, ended, flushed, is_due, load_gave, loaded, loaded_next, taken}
+use Rattle.script_run.specs.Runs.{Run, asked, called_where, called_within, did, happened, holding_at, next_turn, tried, tried_first, tried_where, want_of, went}
+use Rattle.script_run.specs.Turns.{Turn, turn_now, view_at}
 
 -- one for an entry that tells of a fault
 abbrev pub one_if : Bool → ℕ
@@ -34,88 +45,116 @@ happened_faults r v = faults_push r.journal (entry_of r.state v)
 pub own_faults : (r : Run) (own : Own) → faults_in (happened r (JarEvent own)).journal ≡ faults_in r.journal + one_if (is_own_fault own)
 own_faults r own = happened_faults r (JarEvent own)
 
-no_more : (r t : Run) (before : ℕ) → faults_in t.journal ≡ faults_in r.journal → CountsFaults r t before before
-no_more r t before e first rose = subst (λ n. RoseTimes n first before) (sym e) rose
+-- an entry of the jar's own tells of no fewer faults
+own_more : (r : Run) (own : Own) → faults_in r.journal ≤ faults_in (happened r (JarEvent own)).journal
+own_more r own = let same = own_faults r own in omega (arith, same)
 
-pub one_more : (r t : Run) (before now : ℕ) → faults_in t.journal ≡ suc (faults_in r.journal) → Rose before now → CountsFaults r t before now
-one_more r t before now e rise first rose = subst (λ n. RoseTimes n first now) (sym e) (before, rose, rise)
+did_more : (may : Bool) (r : Run) (own : Own) → faults_in r.journal ≤ faults_in (did may r own).journal
+did_more true r own = own_more r own
+did_more false r own = omega arith
 
--- ---- a commit
+-- ---- a try tells of no fault
 
-taken_faults : (r : Run) → faults_in (taken r).journal ≡ faults_in r.journal
-taken_faults r = own_faults r Taken ∙ omega arith
+-- the journal tells of as many faults as before
+abbrev IsFaultless : Run → Run → Type 0
+IsFaultless r t = faults_in t.journal ≡ faults_in r.journal
 
-ended_faults : (commits : Bool) (place : ℕ) (t : Run) → faults_in (ended commits place t).journal ≡ faults_in t.journal + cond commits 0 1
-ended_faults true place t = own_faults t (Acked place)
-ended_faults false place t = own_faults t (CommitLost place)
+call_faults : (r : Run) (a now : ℕ) (op : Op) → IsFaultless r (happened r (CallEvent a now op))
+call_faults r a now op = happened_faults r (CallEvent a now op) ∙ omega arith
 
-pub committed_faults : (commits : Bool) (r : Run) → faults_in (committed commits r).journal ≡ faults_in r.journal + cond commits 0 1
-committed_faults commits r =
-    let t = taken r in ended_faults commits (length t.journal) t ∙ ap (λ n. n + cond commits 0 1) (taken_faults r)
+did_faults : (may : Bool) (r : Run) (own : Own) → is_own_fault own ≡ false → IsFaultless r (did may r own)
+did_faults true r own none = own_faults r own ∙ (ap (λ b. faults_in r.journal + one_if b) none ∙ omega arith)
+did_faults false r own none = refl
 
-same_count : (r t : Run) (before now : ℕ) → now ≡ before → faults_in t.journal ≡ faults_in r.journal → CountsFaults r t before now
-same_count r t before now e same = subst (CountsFaults r t before) (sym e) (no_more r t before same)
+-- what is wanted is no fault
+want_faults : (w : Awaited) → is_own_fault (want_of w) ≡ false
+want_faults (awaited.Key key) = refl
+want_faults awaited.All = refl
 
-pub committed_counts : (commits : Bool) (r : Run) (before now : ℕ) → CountsCommit commits before now → CountsFaults r (committed commits r) before now
-committed_counts true r before now count = same_count r (committed true r) before now count (committed_faults true r ∙ omega arith)
-committed_counts false r before now count = one_more r (committed false r) before now (committed_faults false r ∙ omega arith) count
+where_faults : (o : Option CoreRefusal) (a : ℕ) (r : Run) (now : ℕ) (op : Op) (why : Purpose) → IsFaultless r (called_where o a r now op why)
+where_faults (Some (Pending w)) a r now op why = did_faults (own_may_stand r.state (want_of w)) r (want_of w) (want_faults w)
+where_faults (Some (NotYet found)) a r now op why = refl
+where_faults (Some NoMemory) a r now op why = refl
+where_faults None a r now op why = call_faults r a now op
+
+within_faults : (full : Bool) (a : ℕ) (r : Run) (now : ℕ) (op : Op) (why : Purpose) → IsFaultless r (called_within full a r now op why)
+within_faults true a r now op why = refl
+within_faults false a r now op why = where_faults (op_waits r.state op) a r now op why
+
+asked_faults : (script : Script) (a : ℕ) (r : Run) (now : ℕ) (why : Purpose) (o : Option Ask) → IsFaultless r (asked script a r now why o)
+asked_faults script a r now why None = refl
+asked_faults script a r now why (Some (ask.Op op)) = within_faults (nat_le script.limit r.state.calls) a r now op why
+asked_faults script a r now why (Some (ask.Refused name)) = refl
+
+went_faults : (script : Script) (a : ℕ) (r : Run) (now : ℕ) (way : Way) (o : Option Ask) → IsFaultless r (went script a r now way o)
+went_faults script a r now (reuses text) o = refl
+went_faults script a r now (calls why) o = asked_faults script a r now why o
+
+turn_faults : (script : Script) (a : ℕ) (r : Run) (o : Option Turn) → IsFaultless r (tried_where script a r o)
+turn_faults script a r None = refl
+turn_faults script a r (Some turn) =
+    let sees = view_at script.actors a in
+    went_faults script a r (turn_now script turn) (way_of r.state sees (holding_at r a) turn) (ask_of script.suffixes sees turn)
+
+pub tried_faults : (script : Script) (a : ℕ) (r : Run) → faults_in (tried script a r).journal ≡ faults_in r.journal
+tried_faults script a r = turn_faults script a r (next_turn script a r)
+
+pub first_faults : (script : Script) (k : ℕ) (r : Run) → faults_in (tried_first script k r).journal ≡ faults_in r.journal
+first_faults script zero r = refl
+first_faults script (suc k) r = tried_faults script k (tried_first script k r) ∙ first_faults script k r
 
 -- ---- a load
 
-did_faults : (may : Bool) (r : Run) (key : List ℕ) → faults_in (did may r (Begun key)).journal ≡ faults_in r.journal
-did_faults true r key = own_faults r (Begun key) ∙ omega arith
-did_faults false r key = refl
-
-load_counts_at : (lost : Bool) (r t : Run) (before now : ℕ) → faults_in t.journal ≡ faults_in r.journal + one_if lost → CountsLoad lost before now → CountsFaults r t before now
-load_counts_at true r t before now e count = one_more r t before now (e ∙ omega arith) count
-load_counts_at false r t before now e count = same_count r t before now count (e ∙ omega arith)
-
-pub load_faults : (r : Run) (key : List ℕ) (own : Own) → faults_in (happened (did (own_may_stand r.state (Begun key)) r (Begun key)) (JarEvent own)).journal
-    ≡ faults_in r.journal + one_if (is_own_fault own)
-load_faults r key own =
-    let may = own_may_stand r.state (Begun key) in
-    own_faults (did may r (Begun key)) own ∙ ap (λ n. n + one_if (is_own_fault own)) (did_faults may r key)
-
-pub load_counts : (r : Run) (key : List ℕ) (own : Own) (before now : ℕ) → CountsLoad (is_own_fault own) before now
-    → CountsFaults r (happened (did (own_may_stand r.state (Begun key)) r (Begun key)) (JarEvent own)) before now
-load_counts r key own before now count =
-    load_counts_at (is_own_fault own) r (happened (did (own_may_stand r.state (Begun key)) r (Begun key)) (JarEvent own)) before now (load_faults r key own) count
-
--- ---- answers
-
-pub on_ok : {T E P Q : Type 0} → (r : Result T E) → (P → Q) → OnOk r P → OnOk r Q
-on_ok (Ok value) f p = f p
-on_ok (Err error) f p = p
-
--- the batch of a run was taken, and ended so
-pub flush_counts : (r t end : Run) (commits : Bool) (before now : ℕ) → t ≡ taken r → end ≡ ended commits (length t.journal) t
-    → CountsCommit commits before now → CountsFaults r end before now
-flush_counts r t end commits before now was is count =
-    let same : end ≡ committed commits r = is ∙ ap (λ u. ended commits (length u.journal) u) was in
-    subst (λ e. CountsFaults r e before now) (sym same) (committed_counts commits r before now count)
-
-pub on_ok_both : {T E P Q R : Type 0} → (r : Result T E) → (P → Q → R) → OnOk r P → OnOk r Q → OnOk r R
-on_ok_both (Ok value) f p q = f p q
-on_ok_both (Err error) f p q = p
-
--- ---- a round
-
-did_whole_more : (may : Bool) (r : Run) (now : ℕ) → faults_in r.journal ≤ faults_in (did may r (Whole now)).journal
-did_whole_more true r now = let same = own_faults r (Whole now) in omega (arith, same)
-did_whole_more false r now = omega arith
-
 next_more : (o : Option (List ℕ)) (start : ℕ) (gives : Giving) (r : Run) → faults_in r.journal ≤ faults_in (loaded_next o start gives r).journal
-next_more (Some key) start gives r = let more = load_faults r key (load_gave key (gives key)) in omega (arith, more)
-next_more None start gives r = did_whole_more (own_may_stand r.state (Whole start)) r start
+next_more (Some key) start gives r =
+    let may = own_may_stand r.state (Begun key) in
+    let begun = did_more may r (Begun key) in
+    let gave = own_more (did may r (Begun key)) (load_gave key (gives key)) in
+    omega (arith, begun, gave)
+next_more None start gives r = did_more (own_may_stand r.state (Whole start)) r (Whole start)
 
 -- a load tells of no fewer faults
 pub loaded_more : (start : ℕ) (gives : Giving) (r : Run) → faults_in r.journal ≤ faults_in (loaded start gives r).journal
 loaded_more start gives r = next_more (next_key r.state.loads.keys) start gives r
 
+-- ---- a commit
+
+ended_more : (commits : Bool) (place : ℕ) (r : Run) → faults_in r.journal ≤ faults_in (ended commits place r).journal
+ended_more true place r = own_more r (Acked place)
+ended_more false place r = own_more r (CommitLost place)
+
+where_more : (due commits : Bool) (r : Run) → faults_in r.journal ≤ faults_in (committed_where due commits r).journal
+where_more true commits r =
+    let t = taken r in
+    let took = own_more r Taken in
+    let end = ended_more commits (length t.journal) t in
+    omega (arith, took, end)
+where_more false commits r = omega arith
+
+-- a commit tells of no fewer faults
+pub flushed_more : (force commits : Bool) (r : Run) → faults_in r.journal ≤ faults_in (flushed force commits r).journal
+flushed_more force commits r = where_more (is_due force r) commits r
+
+-- ---- results
+
+pub on_ok : {T E P Q : Type 0} → (r : Result T E) → (P → Q) → OnOk r P → OnOk r Q
+on_ok (Ok value) f p = f p
+on_ok (Err error) f p = p
+
+pub on_ok_both : {T E P Q R : Type 0} → (r : Result T E) → (P → Q → R) → OnOk r P → OnOk r Q → OnOk r R
+on_ok_both (Ok value) f p q = f p q
+on_ok_both (Err error) f p q = p
+
 -- what is said where a result is Ok, of one that is no error
 pub of_ok : {T E P : Type 0} → (r : Result T E) → OnOk r P → is_err r ≡ false → P
 of_ok (Ok value) p e = p
 of_ok (Err error) p e = absurd cc
+
+-- what follows of a result that is Ok from four that are said of it
+pub if_ok_four : {T E : Type 0} {P Q R S W : T → Type 0} → (r : Result T E) → ((t : T) → P t → Q t → R t → S t → W t)
+    → IfOk r P → IfOk r Q → IfOk r R → IfOk r S → IfOk r W
+if_ok_four (Ok value) f p q r s = f value p q r s
+if_ok_four (Err error) f p q r s = p
 
 -- ---- a status
 
@@ -133,9 +172,3 @@ pub status_by_any : (journal : List Entry) → status_of journal ≡ cond (list_
 status_by_any [] = refl
 status_by_any (e ∷ journal) =
     ap status_where (sum_by-cons (λ x. one_if (is_fault x)) e journal) ∙ status_step (is_fault e) (list_any is_fault journal) (faults_in journal) (status_by_any journal)
-
--- what follows of a result that is Ok from four that are said of it
-pub if_ok_four : {T E : Type 0} {P Q R S W : T → Type 0} → (r : Result T E) → ((t : T) → P t → Q t → R t → S t → W t)
-    → IfOk r P → IfOk r Q → IfOk r R → IfOk r S → IfOk r W
-if_ok_four (Ok value) f p q r s = f value p q r s
-if_ok_four (Err error) f p q r s = p

@@ -1,8 +1,9 @@
--- Why each item fits its step.
+-- Why each item fits its turn.
 use Rattle.std.proofs.Common.{◌≡◌, ◌≢◌, ◌<◌, ◌≤◌, ◌+◌, ◌⊎◌, ℕ, suc, zero, List, [], ◌∷◌, ◌++◌, Bool, true, false, Option, None, Some, length, take, replicate, slice_get, refl, ap, sym, ◌∙◌, arith, subst, inl, inr, length-append, length-set, append_assoc, get_or-set_same, get_or-set_other}
 use Rattle.std.specs.Prelude.{◌==◌, map, nat_le, slice_index_or}
 use Rattle.std.proofs.lemmas.Bool.{cases_eq}
 use Rattle.std.proofs.lemmas.Bool.Decides.{nat_tests}
+use Rattle.std.proofs.lemmas.List.{length-map}
 use Rattle.jar_types.specs.declared.op.Op.{Op}
 use Rattle.jar_types.specs.declared.op.Reply.{Reply}
 use Rattle.jar_types.specs.declared.entry.Own.{Own}
@@ -15,21 +16,26 @@ use Rattle.jar_types.specs.Journals.{stored_keys}
 use Rattle.jar_types.specs.Steps.{call_step, entry_of, own_may_stand}
 use Rattle.jar_types.specs.Waits.{op_waits}
 use Rattle.run_report.specs.declared.item.Item.{Item}
-use Rattle.run_report.specs.declared.item.Item.TheVariants.{At, Refused}
+use Rattle.run_report.specs.declared.item.Item.TheVariants.{At, Asked, Reused, Refused}
+use Rattle.run_report.specs.declared.refusal_name.RefusalName.{RefusalName}
 use Rattle.run_report.specs.declared.refusal_name.RefusalName.TheVariants.{Spent}
 use Rattle.script_text.specs.declared.actor.Actor.{Actor}
 use Rattle.script_text.specs.declared.script.Script.{Script}
-use Rattle.script_text.specs.declared.step.Step.{Step}
-use Rattle.script_text.specs.Deadlocks.{steps_at, steps_left}
+use Rattle.script_text.specs.Placed.{View}
 use Rattle.script_run.specs.declared.ask.Ask.{Ask}
 use Rattle.script_run.specs.declared.ask.Ask.TheVariants as ask
+use Rattle.script_run.specs.declared.purpose.Purpose.{Purpose}
+use Rattle.script_run.specs.declared.purpose.Purpose.TheVariants as purpose
 use Rattle.script_run.specs.Ask.{ask_of}
-use Rattle.script_run.specs.Legal.{count_calls, FitsOp, FitsAsk, FitEach, ItemsFitTheSteps}
+use Rattle.script_run.specs.Legal.{count_calls, FitsAsk, FitsCall, FitsTurn, FitEach, IsEntryAt, IsSpent, ItemsFitTheTurns, reads}
+use Rattle.script_run.specs.Reads.{Way, reuses, calls, way_of}
 use Rattle.script_run.specs.Rounds.{Ends, rounds, rules_of}
-use Rattle.script_run.specs.Runs.{Run, begin, items_at, left, did, happened, noted, called_where, called_within, asked, tried_step, next_step, want_of}
+use Rattle.script_run.specs.Runs.{Run, begin, items_at, holding_at, item_of, left, did, happened, noted, called_where, called_within, asked, went, tried_where, next_turn, want_of}
+use Rattle.script_run.specs.Turns.{Turn, does, lead_of, turn_now, turns_at, turns_before, turns_left, turns_of, view_at}
 use Rattle.script_run.proofs.ClosedLemmas.{Closed, closed_flush, closed_rounds}
 use Rattle.script_run.proofs.RoundLemmas.{flush_items}
 use Rattle.script_run.proofs.SameLemmas.{call_calls}
+use Rattle.script_run.proofs.WayLemmas.{is_for_read, purpose_of_turn, reused_fit}
 
 -- ---- a journal that goes on
 
@@ -48,76 +54,88 @@ count_own [] own = refl
 count_own (Call caller now op reply ∷ es) own = ap (λ n. n + 1) (count_own es own)
 count_own (Jar other ∷ es) own = count_own es own
 
-op_later : (limit : ℕ) (journal : List Entry) (e : Entry) (a now : ℕ) (op : Op) (item : Item) → FitsOp limit journal a now op item
-    → FitsOp limit (journal ++ e ∷ []) a now op item
-op_later limit journal e a now op (At place) fits = record {
-  before = fits.before;
-  reply = fits.reply;
-  later = fits.later ++ e ∷ [];
-  is = ap (λ es. es ++ e ∷ []) fits.is ∙ append_assoc fits.before (Call a now op fits.reply ∷ fits.later) (e ∷ []);
-  place_is = fits.place_is;
+entry_later : (journal : List Entry) (e : Entry) (place a now : ℕ) (op : Op) → IsEntryAt journal place a now op → IsEntryAt (journal ++ e ∷ []) place a now op
+entry_later journal e place a now op at = record {
+  before = at.before;
+  reply = at.reply;
+  later = at.later ++ e ∷ [];
+  is = ap (λ es. es ++ e ∷ []) at.is ∙ append_assoc at.before (Call a now op at.reply ∷ at.later) (e ∷ []);
+  place_is = at.place_is;
 }
-op_later limit journal e a now op (Refused name) fits =
-    let few = fits.1 in let more = count_more journal e in (fits.0, omega (arith, few, more))
 
-ask_later : (limit : ℕ) (journal : List Entry) (e : Entry) (a now : ℕ) (o : Option Ask) (item : Item) → FitsAsk limit journal a now o item
-    → FitsAsk limit (journal ++ e ∷ []) a now o item
-ask_later limit journal e a now None item fits = fits
-ask_later limit journal e a now (Some (ask.Op op)) item fits = op_later limit journal e a now op item fits
-ask_later limit journal e a now (Some (ask.Refused name)) item fits = fits
+spent_later : (limit : ℕ) (journal : List Entry) (e : Entry) (name : RefusalName) → IsSpent limit journal name → IsSpent limit (journal ++ e ∷ []) name
+spent_later limit journal e name spent =
+    let few = spent.1 in let more = count_more journal e in (spent.0, omega (arith, few, more))
 
-each_later : (script : Script) (journal : List Entry) (e : Entry) (a : ℕ) (steps : List Step) (items : List Item) → FitEach script journal a steps items
-    → FitEach script (journal ++ e ∷ []) a steps items
-each_later script journal e a [] [] fits = tt
-each_later script journal e a [] (i ∷ is) fits = fits
-each_later script journal e a (s ∷ ss) [] fits = fits
-each_later script journal e a (s ∷ ss) (i ∷ is) fits =
-    (ask_later script.limit journal e a s.now (ask_of script.suffixes s) i fits.0, each_later script journal e a ss is fits.1)
+call_later : (read : Bool) (limit : ℕ) (journal : List Entry) (e : Entry) (a now : ℕ) (op : Op) (item : Item) → FitsCall read limit journal a now op item
+    → FitsCall read limit (journal ++ e ∷ []) a now op item
+call_later true limit journal e a now op (At place) fits = fits
+call_later true limit journal e a now op (Asked place cause) fits = entry_later journal e place a now op fits
+call_later true limit journal e a now op (Reused text) fits = fits
+call_later true limit journal e a now op (Refused name) fits = spent_later limit journal e name fits
+call_later false limit journal e a now op (At place) fits = entry_later journal e place a now op fits
+call_later false limit journal e a now op (Asked place cause) fits = fits
+call_later false limit journal e a now op (Reused text) fits = fits
+call_later false limit journal e a now op (Refused name) fits = spent_later limit journal e name fits
 
--- ---- the steps that were done
+ask_later : (read : Bool) (limit : ℕ) (journal : List Entry) (e : Entry) (a now : ℕ) (o : Option Ask) (item : Item) → FitsAsk read limit journal a now o item
+    → FitsAsk read limit (journal ++ e ∷ []) a now o item
+ask_later read limit journal e a now None item fits = fits
+ask_later read limit journal e a now (Some (ask.Op op)) item fits = call_later read limit journal e a now op item fits
+ask_later read limit journal e a now (Some (ask.Refused name)) item fits = fits
 
--- the next step, done
-each_more : (script : Script) (journal : List Entry) (a : ℕ) (steps : List Step) (items : List Item) (step : Step) (item : Item)
-    → FitEach script journal a (take (length items) steps) items → slice_get steps (length items) ≡ Some step
-    → FitsAsk script.limit journal a step.now (ask_of script.suffixes step) item
-    → FitEach script journal a (take (length (items ++ item ∷ [])) steps) (items ++ item ∷ [])
-each_more script journal a [] [] step item fits is fit = absurd cc
-each_more script journal a (s ∷ ss) [] step item fits is fit =
-    let same : s ≡ step = cc in
-    (subst (λ (t : Step). FitsAsk script.limit journal a t.now (ask_of script.suffixes t) item) (sym same) fit, tt)
-each_more script journal a [] (i ∷ is) step item fits there fit = absurd fits
-each_more script journal a (s ∷ ss) (i ∷ is) step item fits there fit =
-    (fits.0, each_more script journal a ss is step item fits.1 there fit)
+each_later : (script : Script) (sees : Option View) (journal : List Entry) (e : Entry) (a : ℕ) (turns : List Turn) (items : List Item)
+    → FitEach script sees journal a turns items → FitEach script sees (journal ++ e ∷ []) a turns items
+each_later script sees journal e a [] [] fits = tt
+each_later script sees journal e a [] (i ∷ is) fits = fits
+each_later script sees journal e a (t ∷ ts) [] fits = fits
+each_later script sees journal e a (t ∷ ts) (i ∷ is) fits =
+    (ask_later (reads t) script.limit journal e a (turn_now script t) (ask_of script.suffixes sees t) i fits.0, each_later script sees journal e a ts is fits.1)
 
--- the run so far: callers' entries are counted, and the items of each actor fit the steps that it has done
+-- ---- the turns that were done
+
+-- the next turn, done
+each_more : (script : Script) (sees : Option View) (journal : List Entry) (a : ℕ) (turns : List Turn) (items : List Item) (turn : Turn) (item : Item)
+    → FitEach script sees journal a (take (length items) turns) items → slice_get turns (length items) ≡ Some turn
+    → FitsTurn script sees journal a turn item
+    → FitEach script sees journal a (take (length (items ++ item ∷ [])) turns) (items ++ item ∷ [])
+each_more script sees journal a [] [] turn item fits is fit = absurd cc
+each_more script sees journal a (t ∷ ts) [] turn item fits is fit =
+    let same : t ≡ turn = cc in
+    (subst (λ (u : Turn). FitsTurn script sees journal a u item) (sym same) fit, tt)
+each_more script sees journal a [] (i ∷ is) turn item fits there fit = absurd fits
+each_more script sees journal a (t ∷ ts) (i ∷ is) turn item fits there fit =
+    (fits.0, each_more script sees journal a ts is turn item fits.1 there fit)
+
+-- these items of an actor fit as many of its turns
+abbrev FitSoFar : Script → List Entry → ℕ → List Item → Type 0
+FitSoFar script journal a items =
+    FitEach script (view_at script.actors a) journal a (take (length items) (turns_at script.actors a)) items
+
+-- the run so far: callers' entries are counted, and the items of each actor fit the turns that it has done
 record Fits (script : Script) (r : Run) : Type 0 where
   many : length r.items ≡ length script.actors
   calls : r.state.calls ≡ count_calls r.journal
-  each : (a : ℕ) → a < length script.actors
-      → FitEach script r.journal a (take (length (items_at r a)) (steps_at script.actors a)) (items_at r a)
+  each : (a : ℕ) → a < length script.actors → FitSoFar script r.journal a (items_at r a)
 
 -- an actor's items with one more
-noted_at : (script : Script) (b a : ℕ) (h : Run) (item : Item) (step : Step) → length h.items ≡ length script.actors → b < length script.actors
-    → ((c : ℕ) → c < length script.actors → FitEach script h.journal c (take (length (items_at h c)) (steps_at script.actors c)) (items_at h c))
-    → slice_get (steps_at script.actors b) (length (items_at h b)) ≡ Some step
-    → FitsAsk script.limit h.journal b step.now (ask_of script.suffixes step) item
-    → (a ≡ b) ⊎ (a ≢ b) → a < length script.actors
-    → FitEach script h.journal a (take (length (items_at (noted b h item) a)) (steps_at script.actors a)) (items_at (noted b h item) a)
-noted_at script b a h item step many low each is fit (inl same) within =
-    rw same (subst (λ items. FitEach script h.journal b (take (length items) (steps_at script.actors b)) items)
+noted_at : (script : Script) (b a : ℕ) (h : Run) (item : Item) (turn : Turn) → length h.items ≡ length script.actors → b < length script.actors
+    → ((c : ℕ) → c < length script.actors → FitSoFar script h.journal c (items_at h c))
+    → next_turn script b h ≡ Some turn → FitsTurn script (view_at script.actors b) h.journal b turn item
+    → (a ≡ b) ⊎ (a ≢ b) → a < length script.actors → FitSoFar script h.journal a (items_at (noted b h item) a)
+noted_at script b a h item turn many low each is fit (inl same) within =
+    rw same (subst (FitSoFar script h.journal b)
     (sym (get_or-set_same h.items b (items_at h b ++ item ∷ []) [] (omega (arith, low, many))))
-    (each_more script h.journal b (steps_at script.actors b) (items_at h b) step item (each b low) is fit))
-noted_at script b a h item step many low each is fit (inr other) within =
-    subst (λ items. FitEach script h.journal a (take (length items) (steps_at script.actors a)) items)
-    (sym (get_or-set_other h.items b a (items_at h b ++ item ∷ []) [] other)) (each a within)
+    (each_more script (view_at script.actors b) h.journal b (turns_at script.actors b) (items_at h b) turn item (each b low) is fit))
+noted_at script b a h item turn many low each is fit (inr other) within =
+    subst (FitSoFar script h.journal a) (sym (get_or-set_other h.items b a (items_at h b ++ item ∷ []) [] other)) (each a within)
 
-noted_fits : (script : Script) (b : ℕ) (h : Run) (item : Item) (step : Step) → Fits script h → b < length script.actors
-    → slice_get (steps_at script.actors b) (length (items_at h b)) ≡ Some step
-    → FitsAsk script.limit h.journal b step.now (ask_of script.suffixes step) item → Fits script (noted b h item)
-noted_fits script b h item step fits low is fit = record {
+noted_fits : (script : Script) (b : ℕ) (h : Run) (item : Item) (turn : Turn) → Fits script h → b < length script.actors
+    → next_turn script b h ≡ Some turn → FitsTurn script (view_at script.actors b) h.journal b turn item → Fits script (noted b h item)
+noted_fits script b h item turn fits low is fit = record {
   many = length-set h.items b _ ∙ fits.many;
   calls = fits.calls;
-  each = λ a within. noted_at script b a h item step fits.many low fits.each is fit (cases_eq a b) within;
+  each = λ a within. noted_at script b a h item turn fits.many low fits.each is fit (cases_eq a b) within;
 }
 
 -- an event happened: what fitted still does
@@ -125,7 +143,7 @@ happened_fits : (script : Script) (r : Run) (a now : ℕ) (op : Op) → Fits scr
 happened_fits script r a now op fits = record {
   many = fits.many;
   calls = call_calls r.state a now op ∙ (ap (λ n. n + 1) fits.calls ∙ sym (count_call r.journal a now op (call_step r.state a now op).reply));
-  each = λ c within. each_later script r.journal (entry_of r.state (CallEvent a now op)) c (take (length (items_at r c)) (steps_at script.actors c)) (items_at r c) (fits.each c within);
+  each = λ c within. each_later script (view_at script.actors c) r.journal (entry_of r.state (CallEvent a now op)) c (take (length (items_at r c)) (turns_at script.actors c)) (items_at r c) (fits.each c within);
 }
 
 -- the jar did something itself
@@ -133,59 +151,98 @@ own_fits_run : (script : Script) (r : Run) (own : Own) → Fits script r → Fit
 own_fits_run script r own fits = record {
   many = fits.many;
   calls = fits.calls ∙ sym (count_own r.journal own);
-  each = λ c within. each_later script r.journal (Jar own) c (take (length (items_at r c)) (steps_at script.actors c)) (items_at r c) (fits.each c within);
+  each = λ c within. each_later script (view_at script.actors c) r.journal (Jar own) c (take (length (items_at r c)) (turns_at script.actors c)) (items_at r c) (fits.each c within);
 }
 
 did_fits : (script : Script) (may : Bool) (r : Run) (own : Own) → Fits script r → Fits script (did may r own)
 did_fits script true r own fits = own_fits_run script r own fits
 did_fits script false r own fits = fits
 
-where_fits : (script : Script) (a : ℕ) (r : Run) (step : Step) (op : Op) (o : Option CoreRefusal) → Fits script r → a < length script.actors
-    → next_step script a r ≡ Some step → ask_of script.suffixes step ≡ Some (ask.Op op) → Fits script (called_where o a r step.now op)
-where_fits script a r step op (Some (Pending what)) fits low is asks = did_fits script (own_may_stand r.state (want_of what)) r (want_of what) fits
-where_fits script a r step op (Some (NotYet found)) fits low is asks = fits
-where_fits script a r step op (Some NoMemory) fits low is asks = fits
-where_fits script a r step op None fits low is asks =
-    let v = CallEvent a step.now op in
+-- ---- a try
+
+-- the item of a call fits by its purpose, and that of a turn at the limit whatever it is
+called_fit : (why : Purpose) (read : Bool) (limit : ℕ) (journal : List Entry) (place a now : ℕ) (op : Op) → is_for_read why ≡ read → IsEntryAt journal place a now op
+    → FitsCall read limit journal a now op (item_of why place)
+called_fit purpose.Call true limit journal place a now op e at = absurd cc
+called_fit purpose.Call false limit journal place a now op e at = at
+called_fit purpose.Bind true limit journal place a now op e at = absurd cc
+called_fit purpose.Bind false limit journal place a now op e at = at
+called_fit (purpose.Read cause) true limit journal place a now op e at = at
+called_fit (purpose.Read cause) false limit journal place a now op e at = absurd cc
+
+spent_fit : (read : Bool) (limit : ℕ) (journal : List Entry) (a now : ℕ) (op : Op) (name : RefusalName) → IsSpent limit journal name
+    → FitsCall read limit journal a now op (Refused name)
+spent_fit true limit journal a now op name spent = spent
+spent_fit false limit journal a now op name spent = spent
+
+-- what an actor sees
+abbrev seen_by : Script → ℕ → Option View
+seen_by script a = view_at script.actors a
+
+where_fits : (script : Script) (a : ℕ) (r : Run) (turn : Turn) (why : Purpose) (op : Op) (o : Option CoreRefusal) → Fits script r → a < length script.actors
+    → next_turn script a r ≡ Some turn → ask_of script.suffixes (seen_by script a) turn ≡ Some (ask.Op op) → is_for_read why ≡ reads turn
+    → Fits script (called_where o a r (turn_now script turn) op why)
+where_fits script a r turn why op (Some (Pending w)) fits low is asks reading = did_fits script (own_may_stand r.state (want_of w)) r (want_of w) fits
+where_fits script a r turn why op (Some (NotYet found)) fits low is asks reading = fits
+where_fits script a r turn why op (Some NoMemory) fits low is asks reading = fits
+where_fits script a r turn why op None fits low is asks reading =
+    let now = turn_now script turn in
+    let v = CallEvent a now op in
     let h = happened r v in
     let place = length h.journal in
-    let fit : FitsAsk script.limit h.journal a step.now (ask_of script.suffixes step) (At place) = rw asks (record {
+    let at : IsEntryAt h.journal place a now op = record {
       before = r.journal;
-      reply = (call_step r.state a step.now op).reply;
+      reply = (call_step r.state a now op).reply;
       later = [];
       is = refl;
       place_is = length-append r.journal (entry_of r.state v ∷ []);
-    }) in
-    noted_fits script a h (At place) step (happened_fits script r a step.now op fits) low is fit
+    } in
+    let fit : FitsTurn script (seen_by script a) h.journal a turn (item_of why place) =
+    rw asks (called_fit why (reads turn) script.limit h.journal place a now op reading at) in
+    let n = noted_fits script a h (item_of why place) turn (happened_fits script r a now op fits) low is fit in
+    record { many = n.many; calls = n.calls; each = n.each }
 
-within_fits : (script : Script) (a : ℕ) (r : Run) (step : Step) (op : Op) (full : Bool) → nat_le script.limit r.state.calls ≡ full → Fits script r
-    → a < length script.actors → next_step script a r ≡ Some step → ask_of script.suffixes step ≡ Some (ask.Op op)
-    → Fits script (called_within full a r step.now op)
-within_fits script a r step op true spent fits low is asks =
+within_fits : (script : Script) (a : ℕ) (r : Run) (turn : Turn) (why : Purpose) (op : Op) (full : Bool) → nat_le script.limit r.state.calls ≡ full → Fits script r
+    → a < length script.actors → next_turn script a r ≡ Some turn → ask_of script.suffixes (seen_by script a) turn ≡ Some (ask.Op op)
+    → is_for_read why ≡ reads turn → Fits script (called_within full a r (turn_now script turn) op why)
+within_fits script a r turn why op true spent fits low is asks reading =
     let all : script.limit ≤ r.state.calls = grind (arith, nat_tests) in
     let calls = fits.calls in
-    let fit : FitsAsk script.limit r.journal a step.now (ask_of script.suffixes step) (Refused Spent) = rw asks (refl, omega (arith, all, calls)) in
-    noted_fits script a r (Refused Spent) step fits low is fit
-within_fits script a r step op false spent fits low is asks =
-    where_fits script a r step op (op_waits r.state op) fits low is asks
+    let fit : FitsTurn script (seen_by script a) r.journal a turn (Refused Spent) =
+    rw asks (spent_fit (reads turn) script.limit r.journal a (turn_now script turn) op Spent (refl, omega (arith, all, calls))) in
+    noted_fits script a r (Refused Spent) turn fits low is fit
+within_fits script a r turn why op false spent fits low is asks reading =
+    where_fits script a r turn why op (op_waits r.state op) fits low is asks reading
 
-asked_fits : (script : Script) (a : ℕ) (r : Run) (step : Step) (o : Option Ask) → ask_of script.suffixes step ≡ o → Fits script r
-    → a < length script.actors → next_step script a r ≡ Some step → Fits script (asked script a r step.now o)
-asked_fits script a r step None asks fits low is = fits
-asked_fits script a r step (Some (ask.Op op)) asks fits low is =
-    within_fits script a r step op (nat_le script.limit r.state.calls) refl fits low is asks
-asked_fits script a r step (Some (ask.Refused name)) asks fits low is =
-    let fit : FitsAsk script.limit r.journal a step.now (ask_of script.suffixes step) (Refused name) = rw asks refl in
-    noted_fits script a r (Refused name) step fits low is fit
+asked_fits : (script : Script) (a : ℕ) (r : Run) (turn : Turn) (why : Purpose) (o : Option Ask) → ask_of script.suffixes (seen_by script a) turn ≡ o
+    → Fits script r → a < length script.actors → next_turn script a r ≡ Some turn → is_for_read why ≡ reads turn
+    → Fits script (asked script a r (turn_now script turn) why o)
+asked_fits script a r turn why None asks fits low is reading = fits
+asked_fits script a r turn why (Some (ask.Op op)) asks fits low is reading =
+    within_fits script a r turn why op (nat_le script.limit r.state.calls) refl fits low is asks reading
+asked_fits script a r turn why (Some (ask.Refused name)) asks fits low is reading =
+    let fit : FitsTurn script (seen_by script a) r.journal a turn (Refused name) = rw asks refl in
+    noted_fits script a r (Refused name) turn fits low is fit
 
-step_fits : (script : Script) (a : ℕ) (r : Run) (o : Option Step) → next_step script a r ≡ o → Fits script r → a < length script.actors
-    → Fits script (tried_step script a r o)
-step_fits script a r None is fits low = fits
-step_fits script a r (Some step) is fits low = asked_fits script a r step (ask_of script.suffixes step) refl fits low is
+went_fits : (script : Script) (a : ℕ) (r : Run) (turn : Turn) (way : Way) → way_of r.state (seen_by script a) (holding_at r a) turn ≡ way → Fits script r
+    → a < length script.actors → next_turn script a r ≡ Some turn
+    → Fits script (went script a r (turn_now script turn) way (ask_of script.suffixes (seen_by script a) turn))
+went_fits script a r turn (reuses text) goes fits low is =
+    noted_fits script a r (Reused text) turn fits low is
+    (reused_fit script r.journal a r.state (seen_by script a) (holding_at r a) turn text goes)
+went_fits script a r turn (calls why) goes fits low is =
+    asked_fits script a r turn why (ask_of script.suffixes (seen_by script a) turn) refl fits low is
+    (purpose_of_turn r.state (seen_by script a) (holding_at r a) turn why goes)
+
+turn_fits : (script : Script) (a : ℕ) (r : Run) (o : Option Turn) → next_turn script a r ≡ o → Fits script r → a < length script.actors
+    → Fits script (tried_where script a r o)
+turn_fits script a r None is fits low = fits
+turn_fits script a r (Some turn) is fits low =
+    went_fits script a r turn (way_of r.state (seen_by script a) (holding_at r a) turn) refl fits low is
 
 fits_closed : (script : Script) → Closed script (Fits script)
 fits_closed script = record {
-  tries = λ a r low fits. step_fits script a r (next_step script a r) refl fits low;
+  tries = λ a r low fits. turn_fits script a r (next_turn script a r) refl fits low;
   own = λ r own fits. own_fits_run script r own fits;
   batch = λ r pending kept fits. record { many = fits.many; calls = fits.calls; each = fits.each };
 }
@@ -202,16 +259,16 @@ none_at zero a = refl
 none_at (suc n) zero = refl
 none_at (suc n) (suc a) = none_at n a
 
-none_fit : (script : Script) (a : ℕ) (steps : List Step) → FitEach script [] a (take 0 steps) []
-none_fit script a [] = tt
-none_fit script a (s ∷ ss) = tt
+none_fit : (script : Script) (sees : Option View) (a : ℕ) (turns : List Turn) → FitEach script sees [] a (take 0 turns) []
+none_fit script sees a [] = tt
+none_fit script sees a (t ∷ ts) = tt
 
 begin_fits : (script : Script) (keys : List (List ℕ)) → Fits script (begin script keys)
 begin_fits script keys = record {
   many = length_no_items (length script.actors);
   calls = refl;
   each = λ a within.
-      subst (λ items. FitEach script [] a (take (length items) (steps_at script.actors a)) items) (sym (none_at (length script.actors) a)) (none_fit script a (steps_at script.actors a));
+      subst (FitSoFar script [] a) (sym (none_at (length script.actors) a)) (none_fit script (view_at script.actors a) a (turns_at script.actors a));
 }
 
 ended_fits : (script : Script) (hosts : List (List ℕ)) (run : Run) → Ends script hosts run → Fits script run
@@ -223,32 +280,37 @@ ended_fits script hosts run ends =
 
 -- ---- at the end
 
--- an actor of which no step is left has done them all
-all_done : (actors : List Actor) (lists : List (List Item)) (a : ℕ) → length lists ≡ length actors → steps_left actors (map length lists) ≡ 0
-    → a < length actors → length (steps_at actors a) ≤ length (slice_index_or lists a [])
+many_turns : (actor : Actor) → length (turns_of actor) ≡ lead_of actor + length actor.steps
+many_turns actor =
+    length-append (turns_before actor.view) (map does actor.steps) ∙ ap (λ n. lead_of actor + n) (length-map actor.steps does)
+
+-- an actor of which no turn is left has done them all
+all_done : (actors : List Actor) (lists : List (List Item)) (a : ℕ) → length lists ≡ length actors → turns_left actors lists ≡ 0
+    → a < length actors → length (turns_at actors a) ≤ length (slice_index_or lists a [])
 all_done [] lists a many none low = absurd (omega (arith, low))
 all_done (x ∷ xs) [] a many none low = absurd (omega (arith, many))
-all_done (x ∷ xs) (l ∷ ls) zero many none low = omega (arith, none)
+all_done (x ∷ xs) (l ∷ ls) zero many none low = let turns = many_turns x in omega (arith, none, turns)
 all_done (x ∷ xs) (l ∷ ls) (suc a) many none low = all_done xs ls a (omega (arith, many)) (omega (arith, none)) (omega (arith, low))
 
-take_all : (steps : List Step) (n : ℕ) → length steps ≤ n → take n steps ≡ steps
+take_all : (turns : List Turn) (n : ℕ) → length turns ≤ n → take n turns ≡ turns
 take_all [] zero low = refl
 take_all [] (suc n) low = refl
-take_all (s ∷ ss) zero low = absurd (omega (arith, low))
-take_all (s ∷ ss) (suc n) low = ap (λ ts. s ∷ ts) (take_all ss n (omega (arith, low)))
+take_all (t ∷ ts) zero low = absurd (omega (arith, low))
+take_all (t ∷ ts) (suc n) low = ap (λ us. t ∷ us) (take_all ts n (omega (arith, low)))
 
 is_none_left : (n : ℕ) → (n == 0) ≡ true → n ≡ 0
 is_none_left n e = grind (arith, nat_tests)
 
--- the last commit does no step
+-- the last commit does no turn
 last_left : (script : Script) (hosts : List (List ℕ)) (run : Run) (ends : Ends script hosts run)
     → left script run ≡ left script (rounds script hosts (ends.last ∷ ends.earlier))
 last_left script hosts run ends =
-    ap (left script) ends.is ∙ ap (λ lists. steps_left script.actors (map length lists)) (flush_items true ends.commits (rounds script hosts (ends.last ∷ ends.earlier)))
+    ap (left script) ends.is ∙ ap (turns_left script.actors) (flush_items true ends.commits (rounds script hosts (ends.last ∷ ends.earlier)))
 
-pub items_fit : ItemsFitTheSteps
-items_fit script hosts run a admitted built ends low =
+pub items_fit : ItemsFitTheTurns
+items_fit script hosts run a admitted ends low =
     let fits : Fits script run = ended_fits script hosts run ends in
     let none : left script run ≡ 0 = last_left script hosts run ends ∙ is_none_left (left script (rounds script hosts (ends.last ∷ ends.earlier))) ends.done in
     let done = all_done script.actors run.items a fits.many none low in
-    subst (λ steps. FitEach script run.journal a steps (items_at run a)) (take_all (steps_at script.actors a) (length (items_at run a)) done) (fits.each a low)
+    subst (λ turns. FitEach script (view_at script.actors a) run.journal a turns (items_at run a))
+    (take_all (turns_at script.actors a) (length (items_at run a)) done) (fits.each a low)

@@ -25,14 +25,16 @@ use Rattle.stored_law.specs.HostLoads.{cookies_of_hosts, hosts_of_key}
 use Rattle.stored_law.proofs.ChangeLemmas.{newest_are_touched}
 use Rattle.stored_law.proofs.KeyLemmas.{own_unloaded}
 use Rattle.script_text.specs.declared.script.Script.{Script}
-use Rattle.script_text.specs.declared.step.Step.{Step}
 use Rattle.script_text.specs.Admitted.{IsAdmitted}
 use Rattle.script_run.specs.declared.ask.Ask.{Ask}
 use Rattle.script_run.specs.declared.ask.Ask.TheVariants as ask
+use Rattle.script_run.specs.declared.purpose.Purpose.{Purpose}
 use Rattle.script_run.specs.Ask.{ask_of}
+use Rattle.script_run.specs.Reads.{Way, reuses, calls, way_of}
 use Rattle.script_run.specs.Rounds.{EndsOver, Over, committed_where, gives_of, held_where, is_due, load_gave, loaded, loaded_next, round_over, rounds_over, rules_of}
-use Rattle.script_run.specs.Runs.{Run, asked, called, called_where, called_within, did, happened, items_at, next_step, tried_first, tried_step, want_of}
-use Rattle.script_run.proofs.AskOwnLemmas.{AskIsOwn, OpIsOwn, step_own}
+use Rattle.script_run.specs.Runs.{Run, asked, called, called_where, called_within, did, happened, holding_at, items_at, next_turn, tried_first, tried_where, want_of, went}
+use Rattle.script_run.specs.Turns.{Turn, turn_now, view_at}
+use Rattle.script_run.proofs.AskOwnLemmas.{AskIsOwn, OpIsOwn, turn_own}
 use Rattle.script_run.proofs.BesideLemmas.{Beside, IsStill, begin_beside, call_beside, committed_beside, loaded_beside, still_beside, whole_beside}
 use Rattle.script_run.proofs.LeftLemmas.{load_is_stored, next_left}
 use Rattle.script_run.proofs.SameLemmas.{call_batches}
@@ -63,9 +65,9 @@ batched_on b b' pending new same is = record {
 module _ (script : Script) (rows : List Row) where
   -- ---- a try
 
-  call_over : (held : List Row) (a : ℕ) (r : Run) (now : ℕ) (op : Op) → OpIsOwn (rules_over script rows) now op → op_waits r.state op ≡ None
-      → IsOver script rows held r → IsOver script rows held (called a r now op)
-  call_over held a r now op own waits is = (
+  call_over : (held : List Row) (a : ℕ) (r : Run) (now : ℕ) (op : Op) (why : Purpose) → OpIsOwn (rules_over script rows) now op → op_waits r.state op ≡ None
+      → IsOver script rows held r → IsOver script rows held (called a r now op why)
+  call_over held a r now op why own waits is = (
     call_beside (rules_over script rows) rows held r.state r.journal r.pending a now op is.0 own waits,
     batched_on r.state.batches _ r.pending (rows_at r.state (CallEvent a now op)) (call_batches r.state a now op) is.1,
     is.2,
@@ -92,35 +94,42 @@ module _ (script : Script) (rows : List Row) where
   want_over held r awaited.All true may is =
       still_over held r WantAll (record { rows = refl; cookies = refl; unloaded = refl; keys = is.0.keys }) tt refl is
 
-  where_over : (held : List Row) (a : ℕ) (r : Run) (now : ℕ) (op : Op) (o : Option CoreRefusal) → op_waits r.state op ≡ o → OpIsOwn (rules_over script rows) now op
-      → IsOver script rows held r → IsOver script rows held (called_where o a r now op)
-  where_over held a r now op (Some (Pending what)) waits own is = want_over held r what (own_may_stand r.state (want_of what)) refl is
-  where_over held a r now op (Some (NotYet found)) waits own is = is
-  where_over held a r now op (Some NoMemory) waits own is = is
-  where_over held a r now op None waits own is = call_over held a r now op own waits is
+  where_over : (held : List Row) (a : ℕ) (r : Run) (now : ℕ) (op : Op) (why : Purpose) (o : Option CoreRefusal) → op_waits r.state op ≡ o → OpIsOwn (rules_over script rows) now op
+      → IsOver script rows held r → IsOver script rows held (called_where o a r now op why)
+  where_over held a r now op why (Some (Pending what)) waits own is = want_over held r what (own_may_stand r.state (want_of what)) refl is
+  where_over held a r now op why (Some (NotYet found)) waits own is = is
+  where_over held a r now op why (Some NoMemory) waits own is = is
+  where_over held a r now op why None waits own is = call_over held a r now op why own waits is
 
-  within_over : (held : List Row) (a : ℕ) (r : Run) (now : ℕ) (op : Op) (full : Bool) → OpIsOwn (rules_over script rows) now op
-      → IsOver script rows held r → IsOver script rows held (called_within full a r now op)
-  within_over held a r now op true own is = is
-  within_over held a r now op false own is = where_over held a r now op (op_waits r.state op) refl own is
+  within_over : (held : List Row) (a : ℕ) (r : Run) (now : ℕ) (op : Op) (why : Purpose) (full : Bool) → OpIsOwn (rules_over script rows) now op
+      → IsOver script rows held r → IsOver script rows held (called_within full a r now op why)
+  within_over held a r now op why true own is = is
+  within_over held a r now op why false own is = where_over held a r now op why (op_waits r.state op) refl own is
 
-  asked_over : (held : List Row) (a : ℕ) (r : Run) (now : ℕ) (o : Option Ask) → AskIsOwn (rules_over script rows) now o
-      → IsOver script rows held r → IsOver script rows held (asked script a r now o)
-  asked_over held a r now None own is = is
-  asked_over held a r now (Some (ask.Op op)) own is = within_over held a r now op (nat_le script.limit r.state.calls) own is
-  asked_over held a r now (Some (ask.Refused name)) own is = is
+  asked_over : (held : List Row) (a : ℕ) (r : Run) (now : ℕ) (why : Purpose) (o : Option Ask) → AskIsOwn (rules_over script rows) now o
+      → IsOver script rows held r → IsOver script rows held (asked script a r now why o)
+  asked_over held a r now why None own is = is
+  asked_over held a r now why (Some (ask.Op op)) own is = within_over held a r now op why (nat_le script.limit r.state.calls) own is
+  asked_over held a r now why (Some (ask.Refused name)) own is = is
 
-  step_over : (held : List Row) (a : ℕ) (r : Run) (o : Option Step) → IsAdmitted script → next_step script a r ≡ o
-      → IsOver script rows held r → IsOver script rows held (tried_step script a r o)
-  step_over held a r None admitted next is = is
-  step_over held a r (Some step) admitted next is =
-      asked_over held a r step.now (ask_of script.suffixes step) (step_own script (hosts_of rows) a (length (items_at r a)) step admitted next) is
+  went_over : (held : List Row) (a : ℕ) (r : Run) (now : ℕ) (way : Way) (o : Option Ask) → AskIsOwn (rules_over script rows) now o
+      → IsOver script rows held r → IsOver script rows held (went script a r now way o)
+  went_over held a r now (reuses text) o own is = is
+  went_over held a r now (calls why) o own is = asked_over held a r now why o own is
+
+  turn_over : (held : List Row) (a : ℕ) (r : Run) (o : Option Turn) → IsAdmitted script → next_turn script a r ≡ o
+      → IsOver script rows held r → IsOver script rows held (tried_where script a r o)
+  turn_over held a r None admitted next is = is
+  turn_over held a r (Some turn) admitted next is =
+      let sees = view_at script.actors a in
+      went_over held a r (turn_now script turn) (way_of r.state sees (holding_at r a) turn) (ask_of script.suffixes sees turn)
+      (turn_own script (hosts_of rows) a (length (items_at r a)) turn admitted next) is
 
   first_over : (held : List Row) (k : ℕ) (r : Run) → IsAdmitted script → IsOver script rows held r → IsOver script rows held (tried_first script k r)
   first_over held zero r admitted is = is
   first_over held (suc k) r admitted is =
       let t = tried_first script k r in
-      step_over held k t (next_step script k t) admitted refl (first_over held k r admitted is)
+      turn_over held k t (next_turn script k t) admitted refl (first_over held k r admitted is)
 
   -- ---- a load
 

@@ -1,9 +1,8 @@
--- What each try of a run keeps, and that a round goes on: while a step is left, one is done.
-use Rattle.std.proofs.Common.{◌≡◌, ◌≢◌, ◌<◌, ◌≤◌, ◌+◌, ◌⊎◌, ℕ, zero, suc, List, [], ◌∷◌, ◌++◌, Bool, true, false, cond, Option, None, Some, length, map, set, slice_get, slice_index, refl, ap, sym, ◌∙◌, arith, subst, inl, inr, ⊎_elim, length-append, length-set, get_or-set_same, get_or-set_other}
-use Rattle.std.specs.Prelude.{not, ◌&&◌, ◌||◌, bytes_eq, nat_le, ◌==◌, option_map, slice_index_or, slice_set, if◌then◌else◌}
+-- What each try of a run keeps, and that a round goes on: while a turn is left, one is done.
+use Rattle.std.proofs.Common.{◌≡◌, ◌≢◌, ◌<◌, ◌≤◌, ◌+◌, ◌⊎◌, ℕ, suc, List, [], ◌∷◌, ◌++◌, Bool, true, false, cond, Option, None, Some, length, slice_index, refl, ap, sym, ◌∙◌, arith, subst, inl, inr, ⊎_elim, length-set, get_or-set_same, get_or-set_other}
+use Rattle.std.specs.Prelude.{not, ◌&&◌, ◌||◌, bytes_eq, nat_le, ◌==◌, option_map, slice_set, if◌then◌else◌}
 use Rattle.std.specs.Option.{option_or}
 use Rattle.std.proofs.lemmas.Bool.Decides.{nat_tests}
-use Rattle.std.proofs.lemmas.Option.{slice_get_within}
 use Rattle.jar_types.specs.declared.jar_core.Awaited.{Awaited}
 use Rattle.jar_types.specs.declared.jar_core.Awaited.TheVariants as awaited
 use Rattle.jar_types.specs.declared.jar_core.CoreRefusal.{CoreRefusal}
@@ -18,47 +17,24 @@ use Rattle.jar_types.specs.Tallies.{counted, tally_of}
 use Rattle.jar_types.specs.Waits.{faulted, is_lost, is_there, needs, op_waits, pending}
 use Rattle.jar_types.proofs.TallyLemmas.{counted_once, counted_other}
 use Rattle.run_report.specs.declared.item.Item.{Item}
-use Rattle.run_report.specs.declared.item.Item.TheVariants.{At, Refused}
+use Rattle.run_report.specs.declared.item.Item.TheVariants.{Refused, Reused}
 use Rattle.run_report.specs.declared.refusal_name.RefusalName.TheVariants.{Spent}
 use Rattle.script_text.specs.declared.script.Script.{Script}
-use Rattle.script_text.specs.declared.step.Step.{Step}
 use Rattle.script_text.specs.Admitted.{IsAdmitted}
-use Rattle.script_text.specs.Deadlocks.{steps_at, steps_left, posts, post_counts, waits, one_on}
-use Rattle.script_text.proofs.DeadlockLemmas.{stand_on, steps_left-set}
+use Rattle.script_text.specs.Deadlocks.{post_counts, one_on}
 use Rattle.script_text.proofs.PostLemmas.{length-post_counts}
 use Rattle.script_run.specs.declared.ask.Ask.{Ask}
 use Rattle.script_run.specs.declared.ask.Ask.TheVariants as ask
+use Rattle.script_run.specs.declared.purpose.Purpose.{Purpose}
 use Rattle.script_run.specs.Ask.{ask_of}
-use Rattle.script_run.specs.Built.{is_built, IsBuilt}
-use Rattle.script_run.specs.Runs.{Run, items_at, positions, left, happened, did, did_if_may, noted, called, called_where, called_within, asked, tried_step, next_step, tried, want_of}
-use Rattle.script_run.proofs.AskLemmas.{OpOf, op_of, refused_no_post, asks}
-use Rattle.script_run.proofs.BuiltLemmas.{built_step}
+use Rattle.script_run.specs.Reads.{Way, calls, reuses, way_of}
+use Rattle.script_run.specs.Runs.{Run, asked, called, called_where, called_within, did, did_if_may, happened, holding_at, item_of, items_at, left, next_turn, noted, positions, tried, tried_where, want_of, went}
+use Rattle.script_run.specs.Turns.{Turn, positions_of, turn_now, turns_left, view_at}
+use Rattle.script_run.proofs.AskLemmas.{OpOf, op_of, refused_no_post, reused_no_post}
 use Rattle.script_run.proofs.LoadLemmas.{AreWanted, Holds, weight, all_holds, unmarked_holds, unmarked_weight, want_holds}
-use Rattle.script_run.proofs.TextLemmas.{has_last, text_self}
 use Rattle.script_run.proofs.SameLemmas.{call_loads, call_posts, loads_where}
-
--- ---- positions
-
-pub length_at : (lists : List (List Item)) (a : ℕ) → slice_index (map length lists) a ≡ length (slice_index_or lists a [])
-length_at [] a = refl
-length_at (l ∷ ls) zero = refl
-length_at (l ∷ ls) (suc a) = length_at ls a
-
-map_set : (lists : List (List Item)) (a : ℕ) (new : List Item) → map length (set lists a new) ≡ set (map length lists) a (length new)
-map_set [] a new = refl
-map_set (l ∷ ls) zero new = refl
-map_set (l ∷ ls) (suc a) new = ap (λ ns. length l ∷ ns) (map_set ls a new)
-
-pub length_positions : (lists : List (List Item)) → length (map length lists) ≡ length lists
-length_positions [] = refl
-length_positions (l ∷ ls) = ap suc (length_positions ls)
-
--- one item more is one step on
-noted_positions : (a : ℕ) (lists : List (List Item)) (item : Item)
-    → map length (slice_set lists a (slice_index_or lists a [] ++ item ∷ [])) ≡ one_on (map length lists) a
-noted_positions a lists item =
-    map_set lists a (slice_index_or lists a [] ++ item ∷ [])
-    ∙ ap (set (map length lists) a) (length-append (slice_index_or lists a []) (item ∷ []) ∙ (omega arith ∙ ap suc (sym (length_at lists a))))
+use Rattle.script_run.proofs.TextLemmas.{has_last, text_self}
+use Rattle.script_run.proofs.TurnLemmas.{asks, counts_behind, length_positions, noted_left, noted_positions, turn_counts, turn_on, turn_posts, turn_waits}
 
 -- ---- what each try keeps
 
@@ -66,56 +42,44 @@ noted_positions a lists item =
 pub record Keeps (script : Script) (r : Run) : Type 0 where
   pub many : length r.items ≡ length script.actors
   pub told : r.state.calls < script.limit → (b : ℕ)
-      → tally_of b r.state.posts ≡ slice_index (post_counts script.actors (positions r)) b
+      → tally_of b r.state.posts ≡ slice_index (post_counts script.actors (positions script r)) b
   pub holds : Holds r.state.loads
 
--- how many steps are left, and how much of the loading
+-- how many turns are left, and how much of the loading
 abbrev pub burden : Script → Run → ℕ
 burden script r = left script r + weight r.state.loads
 
--- a try keeps that, and does a step, or else the actor waits: for posts, or for a load
+-- whether a turn waits for posts
+abbrev pub waits_yet : Script → Run → Turn → Bool
+waits_yet script r turn = turn_waits (post_counts script.actors (positions script r)) turn
+
+-- a try keeps that, and does a turn, or else the actor waits: for posts, or for a load
 pub record Goes (script : Script) (a : ℕ) (r t : Run) : Type 0 where
   pub keeps : Keeps script t
   pub never_back : left script t ≤ left script r
   pub lighter : burden script t ≤ burden script r
-  pub same : left script t ≡ left script r → positions t ≡ positions r
+  pub same : left script t ≡ left script r → t.items ≡ r.items
   pub wanted : left script t ≡ left script r → AreWanted r.state.loads → AreWanted t.state.loads
-  pub still : left script t ≡ left script r → (step : Step) → next_step script a r ≡ Some step
-      → (waits script.actors (positions r) step.what ≡ true) ⊎ AreWanted t.state.loads
+  pub still : left script t ≡ left script r → (turn : Turn) → next_turn script a r ≡ Some turn
+      → (waits_yet script r turn ≡ true) ⊎ AreWanted t.state.loads
 
--- an actor's next step lies within its steps
-within : (script : Script) (a : ℕ) (r : Run) (step : Step) → next_step script a r ≡ Some step
-    → slice_index (positions r) a < length (steps_at script.actors a)
-within script a r step is =
-    let low = slice_get_within (steps_at script.actors a) (length (items_at r a)) step is in
-    omega (arith, low, length_at r.items a)
-
-next_at : (script : Script) (a : ℕ) (r : Run) (step : Step) → next_step script a r ≡ Some step
-    → slice_get (steps_at script.actors a) (slice_index (positions r) a) ≡ Some step
-next_at script a r step is = ap (slice_get (steps_at script.actors a)) (length_at r.items a) ∙ is
-
--- the posts behind a step, by the counts before it
-abbrev counts_behind : Bool → List ℕ → ℕ → List ℕ
-counts_behind is_post counts a = cond is_post (one_on counts a) counts
-
--- a step is done, and its item noted: of the loading one more may be left
-goes_noted : (script : Script) (a : ℕ) (r h : Run) (item : Item) (step : Step) → Keeps script r → next_step script a r ≡ Some step
-    → h.items ≡ r.items
-    → (h.state.calls < script.limit → (b : ℕ) → tally_of b h.state.posts
-    ≡ slice_index (counts_behind (posts step.what) (post_counts script.actors (positions r)) a) b)
-    → Holds h.state.loads → weight h.state.loads ≤ weight r.state.loads + 1
-    → Goes script a r (noted a h item)
-goes_noted script a r h item step keeps is items told holds light =
-    let places : positions (noted a h item) ≡ one_on (positions r) a =
-    noted_positions a h.items item ∙ ap (λ lists. one_on (map length lists) a) items in
-    let many : length (positions r) ≡ length script.actors = length_positions r.items ∙ keeps.many in
-    let fewer : left script (noted a h item) + 1 ≡ left script r =
-    ap (λ ps. steps_left script.actors ps + 1) places ∙ steps_left-set script.actors (positions r) a many (within script a r step is) in
-    let stand = stand_on script.actors (positions r) (post_counts script.actors (positions r)) a step (record { many = many; counted = refl }) (next_at script a r step is) in
+-- a turn is done, and its item noted: of the loading one more may be left
+goes_noted : (script : Script) (a : ℕ) (r t : Run) (item : Item) (turn : Turn) → Keeps script r → next_turn script a r ≡ Some turn
+    → t.items ≡ slice_set r.items a (items_at r a ++ item ∷ [])
+    → (t.state.calls < script.limit → (b : ℕ) → tally_of b t.state.posts
+    ≡ slice_index (counts_behind (turn_posts turn) (post_counts script.actors (positions script r)) a) b)
+    → Holds t.state.loads → weight t.state.loads ≤ weight r.state.loads + 1
+    → Goes script a r t
+goes_noted script a r t item turn keeps is items told holds light =
+    let fewer : left script t + 1 ≡ left script r =
+    ap (λ lists. turns_left script.actors lists + 1) items ∙ noted_left script.actors r.items a item turn keeps.many is in
+    let places : positions script t ≡ turn_on turn (positions script r) a =
+    ap (positions_of script.actors) items ∙ noted_positions script.actors r.items a item turn keeps.many is in
+    let counted = turn_counts script.actors r.items a turn keeps.many is in
     record {
       keeps = record {
-        many = length-set h.items a _ ∙ (ap length items ∙ keeps.many);
-        told = λ few b. told few b ∙ ap (λ counts. slice_index counts b) (stand.counted ∙ ap (post_counts script.actors) (sym places));
+        many = ap length items ∙ (length-set r.items a (items_at r a ++ item ∷ []) ∙ keeps.many);
+        told = λ few b. told few b ∙ ap (λ counts. slice_index counts b) (counted ∙ ap (post_counts script.actors) (sym places));
         holds = holds;
       };
       never_back = omega (arith, fewer);
@@ -125,16 +89,24 @@ goes_noted script a r h item step keeps is items told holds light =
       still = λ equal. absurd (omega (arith, fewer, equal));
     }
 
--- the run is left, and the actor has no step or waits for posts
+-- a turn that is no post is done without an entry
+goes_quiet : (script : Script) (a : ℕ) (r : Run) (item : Item) (turn : Turn) → Keeps script r → next_turn script a r ≡ Some turn → turn_posts turn ≡ false
+    → Goes script a r (noted a r item)
+goes_quiet script a r item turn keeps is no_post =
+    goes_noted script a r (noted a r item) item turn keeps is refl
+    (λ few b. keeps.told few b ∙ ap (λ p. slice_index (counts_behind p (post_counts script.actors (positions script r)) a) b) (sym no_post))
+    keeps.holds (omega arith)
+
+-- the run is left, and the actor has no turn or waits for posts
 goes_still : (script : Script) (a : ℕ) (r : Run) → Keeps script r
-    → ((step : Step) → next_step script a r ≡ Some step → waits script.actors (positions r) step.what ≡ true) → Goes script a r r
+    → ((turn : Turn) → next_turn script a r ≡ Some turn → waits_yet script r turn ≡ true) → Goes script a r r
 goes_still script a r keeps waiting = record {
   keeps = keeps;
   never_back = omega arith;
   lighter = omega arith;
   same = λ e. refl;
   wanted = λ e some. some;
-  still = λ e step is. inl (waiting step is);
+  still = λ e turn is. inl (waiting turn is);
 }
 
 -- ---- what a caller waits for is wanted
@@ -173,7 +145,7 @@ goes_want script a r key true may keeps unloaded free = record {
   lighter = omega arith;
   same = λ e. refl;
   wanted = λ e some. inl (key, last_wanted key r.state.loads);
-  still = λ e step is. inr (inl (key, last_wanted key r.state.loads));
+  still = λ e turn is. inr (inl (key, last_wanted key r.state.loads));
 }
 goes_want script a r key false may keeps unloaded free =
     let stood = stands_already (is_loaded key r.state.loads.keys) (is_wanted key r.state.loads.keys) (is_marked key r.state.loads.keys) true may refl unloaded free in
@@ -183,7 +155,7 @@ goes_want script a r key false may keeps unloaded free =
       lighter = omega arith;
       same = λ e. refl;
       wanted = λ e some. some;
-      still = λ e step is. inr (inl (key, stood));
+      still = λ e turn is. inr (inl (key, stood));
     }
 
 goes_want_all : (script : Script) (a : ℕ) (r : Run) (may : Bool) → own_may_stand r.state (want_of awaited.All) ≡ may → Keeps script r
@@ -195,7 +167,7 @@ goes_want_all script a r true may keeps whole free = record {
   lighter = omega arith;
   same = λ e. refl;
   wanted = λ e some. inr refl;
-  still = λ e step is. inr (inr refl);
+  still = λ e turn is. inr (inr refl);
 }
 goes_want_all script a r false may keeps whole free =
     let stood = stands_already r.state.loads.whole r.state.loads.all_wanted r.state.loads.all_lost true may refl whole free in
@@ -205,7 +177,7 @@ goes_want_all script a r false may keeps whole free =
       lighter = omega arith;
       same = λ e. refl;
       wanted = λ e some. some;
-      still = λ e step is. inr (inr stood);
+      still = λ e turn is. inr (inr stood);
     }
 
 pending_where : (b : Bool) (l : Loads) (other what : Awaited) → (not (is_there l other) && not (is_lost l other)) ≡ b
@@ -259,66 +231,74 @@ where_weight (Some what) l h = unmarked_weight what l h
 where_weight None l h = omega arith
 
 -- an actor made a call
-goes_called : (script : Script) (a : ℕ) (r : Run) (step : Step) (op : Op) → Keeps script r → a < length script.actors
-    → next_step script a r ≡ Some step → OpOf r.state a step.what op → r.state.calls < script.limit
-    → Goes script a r (called a r step.now op)
-goes_called script a r step op keeps low is asks_it few =
-    let h = happened r (CallEvent a step.now op) in
-    let counts = post_counts script.actors (positions r) in
-    let many : length (positions r) ≡ length script.actors = length_positions r.items ∙ keeps.many in
-    let loads = call_loads r.state a step.now op in
+goes_called : (script : Script) (a : ℕ) (r : Run) (turn : Turn) (now : ℕ) (op : Op) (why : Purpose) → Keeps script r → a < length script.actors
+    → next_turn script a r ≡ Some turn → OpOf r.state a turn op → r.state.calls < script.limit
+    → Goes script a r (called a r now op why)
+goes_called script a r turn now op why keeps low is asks_it few =
+    let h = happened r (CallEvent a now op) in
+    let counts = post_counts script.actors (positions script r) in
+    let many : length (positions script r) ≡ length script.actors = length_positions script.actors r.items keeps.many in
+    let loads = call_loads r.state a now op in
     let o = faulted r.state.loads (needs op) in
-    goes_noted script a r h (At (length h.journal)) step keeps is refl
+    goes_noted script a r (called a r now op why) (item_of why (length h.journal)) turn keeps is refl
     (λ later b.
-    ap (tally_of b) (call_posts r.state a step.now op ∙ asks_it.posting r.state.posts)
-    ∙ tally_at (a == b) true (posts step.what) a b r.state.posts counts refl (omega (arith, low, length-post_counts script.actors (positions r) many)) (keeps.told few))
+    ap (tally_of b) (call_posts r.state a now op ∙ asks_it.posting r.state.posts)
+    ∙ tally_at (a == b) true (turn_posts turn) a b r.state.posts counts refl (omega (arith, low, length-post_counts script.actors (positions script r) many)) (keeps.told few))
     (subst Holds (sym loads) (where_holds o r.state.loads keeps.holds))
     (subst (λ l. weight l ≤ weight r.state.loads + 1) (sym loads) (where_weight o r.state.loads keeps.holds))
 
 -- it calls, or waits
-goes_where : (script : Script) (a : ℕ) (r : Run) (step : Step) (op : Op) (o : Option CoreRefusal) → op_waits r.state op ≡ o → Keeps script r → a < length script.actors
-    → next_step script a r ≡ Some step → OpOf r.state a step.what op → r.state.calls < script.limit
-    → Goes script a r (called_where o a r step.now op)
-goes_where script a r step op None wants keeps low is asks_it few = goes_called script a r step op keeps low is asks_it few
-goes_where script a r step op (Some refusal) wants keeps low is asks_it few =
+goes_where : (script : Script) (a : ℕ) (r : Run) (turn : Turn) (now : ℕ) (op : Op) (why : Purpose) (o : Option CoreRefusal) → op_waits r.state op ≡ o
+    → Keeps script r → a < length script.actors
+    → next_turn script a r ≡ Some turn → OpOf r.state a turn op → r.state.calls < script.limit
+    → Goes script a r (called_where o a r now op why)
+goes_where script a r turn now op why None wants keeps low is asks_it few = goes_called script a r turn now op why keeps low is asks_it few
+goes_where script a r turn now op why (Some refusal) wants keeps low is asks_it few =
     ⊎_elim
     (λ (one : (what : Awaited) × (pending r.state.loads (needs op) ≡ Some what) × (refusal ≡ Pending what)).
     rw one.2 (goes_pending script a r one.0 keeps (pending_is r.state.loads (needs op) one.0 one.1)))
     (λ (one : (found : ℕ) × (op_wanting r.state op ≡ Some found) × (refusal ≡ NotYet found)).
     rw one.2 (goes_still script a r keeps (λ other there.
-    let same : step ≡ other = cc in
-    rw (sym same) (asks_it.waiting (post_counts script.actors (positions r)) one.0 (keeps.told few) one.1))))
+    let same : turn ≡ other = let both : Some turn ≡ Some other = sym is ∙ there in cc in
+    rw (sym same) (asks_it.waiting (post_counts script.actors (positions script r)) one.0 (keeps.told few) one.1))))
     (waits_where (pending r.state.loads (needs op)) (op_wanting r.state op) refusal wants)
 
 -- it calls, or callers have as many entries as they may
-goes_within : (script : Script) (a : ℕ) (r : Run) (step : Step) (op : Op) (full : Bool) → nat_le script.limit r.state.calls ≡ full → Keeps script r
-    → a < length script.actors → next_step script a r ≡ Some step → OpOf r.state a step.what op
-    → Goes script a r (called_within full a r step.now op)
-goes_within script a r step op true spent keeps low is asks_it =
+goes_within : (script : Script) (a : ℕ) (r : Run) (turn : Turn) (now : ℕ) (op : Op) (why : Purpose) (full : Bool) → nat_le script.limit r.state.calls ≡ full
+    → Keeps script r → a < length script.actors → next_turn script a r ≡ Some turn → OpOf r.state a turn op
+    → Goes script a r (called_within full a r now op why)
+goes_within script a r turn now op why true spent keeps low is asks_it =
     let all : script.limit ≤ r.state.calls = grind (arith, nat_tests) in
-    goes_noted script a r r (Refused Spent) step keeps is refl (λ few b. absurd (omega (arith, all, few))) keeps.holds (omega arith)
-goes_within script a r step op false spent keeps low is asks_it =
+    goes_noted script a r (noted a r (Refused Spent)) (Refused Spent) turn keeps is refl (λ few b. absurd (omega (arith, all, few))) keeps.holds (omega arith)
+goes_within script a r turn now op why false spent keeps low is asks_it =
     let few : r.state.calls < script.limit = grind (arith, nat_tests) in
-    goes_where script a r step op (op_waits r.state op) refl keeps low is asks_it few
+    goes_where script a r turn now op why (op_waits r.state op) refl keeps low is asks_it few
 
-goes_asked : (script : Script) (a : ℕ) (r : Run) (step : Step) (o : Option Ask) → ask_of script.suffixes step ≡ o → Keeps script r
-    → a < length script.actors → next_step script a r ≡ Some step → is_built step.what ≡ true
-    → Goes script a r (asked script a r step.now o)
-goes_asked script a r step None asked keeps low is built = absurd (asks script.suffixes step.now step.what built asked)
-goes_asked script a r step (Some (ask.Op op)) asked keeps low is built =
-    goes_within script a r step op (nat_le script.limit r.state.calls) refl keeps low is (op_of script.suffixes r.state a step.now step.what op asked)
-goes_asked script a r step (Some (ask.Refused name)) asked keeps low is built =
-    let no_post = refused_no_post script.suffixes step.now step.what (ask.Refused name) asked (λ op e. absurd cc) in
-    goes_noted script a r r (Refused name) step keeps is refl
-    (λ few b. keeps.told few b ∙ ap (λ p. slice_index (counts_behind p (post_counts script.actors (positions r)) a) b) (sym no_post))
-    keeps.holds (omega arith)
+goes_asked : (script : Script) (a : ℕ) (r : Run) (turn : Turn) (now : ℕ) (why : Purpose) (o : Option Ask)
+    → ask_of script.suffixes (view_at script.actors a) turn ≡ o → IsAdmitted script → Keeps script r
+    → a < length script.actors → next_turn script a r ≡ Some turn → Goes script a r (asked script a r now why o)
+goes_asked script a r turn now why None asked admitted keeps low is = absurd (asks script admitted a (length (items_at r a)) turn is asked)
+goes_asked script a r turn now why (Some (ask.Op op)) asked admitted keeps low is =
+    goes_within script a r turn now op why (nat_le script.limit r.state.calls) refl keeps low is
+    (op_of script.suffixes (view_at script.actors a) r.state a turn op asked)
+goes_asked script a r turn now why (Some (ask.Refused name)) asked admitted keeps low is =
+    goes_quiet script a r (Refused name) turn keeps is
+    (refused_no_post script.suffixes (view_at script.actors a) turn (ask.Refused name) asked (λ op e. absurd cc))
 
-goes_step : (script : Script) (a : ℕ) (r : Run) (o : Option Step) → next_step script a r ≡ o → IsAdmitted script → IsBuilt script → Keeps script r
-    → a < length script.actors → Goes script a r (tried_step script a r o)
-goes_step script a r None is admitted built keeps low = goes_still script a r keeps (λ step there. absurd cc)
-goes_step script a r (Some step) is admitted built keeps low =
-    goes_asked script a r step (ask_of script.suffixes step) refl keeps low is (built_step script admitted built a (length (items_at r a)) step is)
+-- it uses a text again, or asks
+goes_went : (script : Script) (a : ℕ) (r : Run) (turn : Turn) (way : Way) → way_of r.state (view_at script.actors a) (holding_at r a) turn ≡ way
+    → IsAdmitted script → Keeps script r → a < length script.actors → next_turn script a r ≡ Some turn
+    → Goes script a r (went script a r (turn_now script turn) way (ask_of script.suffixes (view_at script.actors a) turn))
+goes_went script a r turn (reuses text) way admitted keeps low is =
+    goes_quiet script a r (Reused text) turn keeps is (reused_no_post r.state (view_at script.actors a) (holding_at r a) turn text way)
+goes_went script a r turn (calls why) way admitted keeps low is =
+    goes_asked script a r turn (turn_now script turn) why (ask_of script.suffixes (view_at script.actors a) turn) refl admitted keeps low is
 
-pub goes : (script : Script) (a : ℕ) (r : Run) → IsAdmitted script → IsBuilt script → Keeps script r → a < length script.actors
-    → Goes script a r (tried script a r)
-goes script a r admitted built keeps low = goes_step script a r (next_step script a r) refl admitted built keeps low
+goes_turn : (script : Script) (a : ℕ) (r : Run) (o : Option Turn) → next_turn script a r ≡ o → IsAdmitted script → Keeps script r
+    → a < length script.actors → Goes script a r (tried_where script a r o)
+goes_turn script a r None is admitted keeps low = goes_still script a r keeps (λ turn there. let clash : None ≡ Some turn = sym is ∙ there in absurd cc)
+goes_turn script a r (Some turn) is admitted keeps low =
+    goes_went script a r turn (way_of r.state (view_at script.actors a) (holding_at r a) turn) refl admitted keeps low is
+
+pub goes : (script : Script) (a : ℕ) (r : Run) → IsAdmitted script → Keeps script r → a < length script.actors → Goes script a r (tried script a r)
+goes script a r admitted keeps low = goes_turn script a r (next_turn script a r) refl admitted keeps low

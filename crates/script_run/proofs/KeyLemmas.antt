@@ -1,5 +1,5 @@
 -- Why a cookie that a line makes at a read place has the key of its host or domain.
-use Rattle.std.proofs.Common.{◌≡◌, ◌≤◌, ℕ, suc, List, [], ◌∷◌, ◌++◌, length, map, arith, Bool, true, false, cond, Option, None, Some, refl, sym, ap, ◌∙◌, subst}
+use Rattle.std.proofs.Common.{◌≡◌, ℕ, List, ◌∷◌, ◌++◌, map, Bool, true, false, cond, Option, None, Some, refl, sym, ap, ◌∙◌, subst}
 use Rattle.std.specs.Prelude.{bytes_eq, codes, not, drop, ◌||◌, if◌then◌else◌, Ok}
 use Rattle.std.proofs.lemmas.Slice.Eq.{bytes_eq-Decides}
 use Rattle.jar_values.specs.Hosts.{undotted, is_ip_host}
@@ -14,14 +14,9 @@ use Rattle.canonical_cookie.specs.declared.refusal.CookieRefusal.{CookieRefusal}
 use Rattle.canonical_cookie.specs.declared.refusal.CookieRefusal.TheVariants as refusal
 use Rattle.canonical_cookie.specs.Making.{host_by, cookie_of, unless_refused, made}
 use Rattle.canonical_cookie.specs.Refusals.{is_there_and, has_suffix_domain, is_domain_not_ascii, is_domain_suffix, is_domain_mismatch, is_key_mismatch, refusals, first_of, first_refusal}
-use Rattle.std.proofs.lemmas.List.{length-map}
 use Rattle.std.specs.List.Sorted.{IsStrictlySortedBy}
-use Rattle.std.specs.Ordering.{is_eq, is_lt}
-use Rattle.std.specs.declared.cmp.Ordering.{Ordering}
-use Rattle.std.specs.declared.cmp.Ordering.TheVariants.{Less, Equal, Greater}
 use Rattle.jar_types.specs.Ids.{text_cmp}
 use Rattle.jar_types.specs.Journals.{key_at, stored_keys}
-use Rattle.jar_types.specs.Orders.{ascending, placed_once}
 use Rattle.stored_law.proofs.IdLemmas.{text_total}
 use Rattle.stored_law.proofs.OrderLemmas.{ascending_rises}
 use Rattle.script_text.specs.declared.script.Script.{Script}
@@ -93,27 +88,3 @@ made_keyed rules line place context script now url c read is =
 -- they ascend, and no two are the same
 pub keys_rise : (script : Script) (hosts : List (List ℕ)) → IsStrictlySortedBy text_cmp (stored_keys (rules_of script hosts))
 keys_rise script hosts = ascending_rises text_total (map (key_at (rules_of script hosts)) hosts)
-
--- and are no more than the hosts
-one_more_at_most : (o : Ordering) (x y : List ℕ) (ys zs : List (List ℕ)) → length zs ≤ suc (length ys)
-    → length (if is_lt o then x ∷ (y ∷ ys) else (if is_eq o then y ∷ ys else y ∷ zs)) ≤ suc (suc (length ys))
-one_more_at_most Less x y ys zs few = omega arith
-one_more_at_most Equal x y ys zs few = omega arith
-one_more_at_most Greater x y ys zs few = omega (arith, few)
-
-few_placed : (x : List ℕ) (ys : List (List ℕ)) → length (placed_once text_cmp x ys) ≤ suc (length ys)
-few_placed x [] = omega arith
-few_placed x (y ∷ ys) = one_more_at_most (text_cmp x y) x y ys (placed_once text_cmp x ys) (few_placed x ys)
-
-few_ascending : (xs : List (List ℕ)) → length (ascending text_cmp xs) ≤ length xs
-few_ascending [] = omega arith
-few_ascending (x ∷ xs) =
-    let rest = few_ascending xs in
-    let one = few_placed x (ascending text_cmp xs) in
-    omega (arith, rest, one)
-
-pub few_keys : (script : Script) (hosts : List (List ℕ)) → length (stored_keys (rules_of script hosts)) ≤ length hosts
-few_keys script hosts =
-    let few = few_ascending (map (key_at (rules_of script hosts)) hosts) in
-    let same = length-map hosts (key_at (rules_of script hosts)) in
-    omega (arith, few, same)

@@ -1,11 +1,9 @@
 -- Why the journal of a script is legal.
-use Rattle.std.proofs.Common.{◌≡◌, ◌<◌, ◌≤◌, ◌+◌, ℕ, suc, zero, List, [], ◌∷◌, ◌++◌, Bool, true, false, Option, None, Some, length, slice_get, refl, ap, sym, ◌∙◌, arith, subst, length-append}
-use Rattle.std.specs.Prelude.{◌==◌, ◌&&◌, ◌||◌, not, nat_le, nat_lt, Result, Ok, Err}
+use Rattle.std.proofs.Common.{◌≡◌, ◌<◌, ◌≤◌, ◌+◌, ℕ, suc, zero, List, [], ◌∷◌, ◌++◌, Bool, true, false, Option, None, Some, length, refl, ap, sym, ◌∙◌, arith, subst, length-append}
+use Rattle.std.specs.Prelude.{◌==◌, ◌&&◌, ◌||◌, not, nat_le, nat_lt}
 use Rattle.std.specs.List.{AllByRecursion}
 use Rattle.std.specs.List.Sorted.{IsStrictlySortedBy}
 use Rattle.std.proofs.lemmas.Bool.Decides.{nat_tests}
-use Rattle.std.proofs.lemmas.Slice.Eq.{bytes_eq-Decides}
-use Rattle.jar_values.specs.Hosts.{undotted}
 use Rattle.jar_types.specs.declared.cookie.Cookie.{Cookie}
 use Rattle.jar_types.specs.declared.jar_core.Awaited.{Awaited}
 use Rattle.jar_types.specs.declared.jar_core.Awaited.TheVariants as awaited
@@ -24,73 +22,27 @@ use Rattle.jar_types.specs.Steps.{after, entry_of, own_may_stand}
 use Rattle.jar_types.specs.Waits.{faulted, needs, op_waits}
 use Rattle.jar_types.proofs.JournalLemmas.{state_push, legal_push}
 use Rattle.commit_batches.specs.declared.pending.TheConstants.{MOST_PENDING}
-use Rattle.public_suffix.specs.Suffix.{key_of}
-use Rattle.set_cookie_line.specs.declared.line.Line.{Line}
-use Rattle.set_cookie_line.specs.declared.line.LineRefusal.{LineRefusal}
-use Rattle.set_cookie_line.specs.Line.{read_line}
-use Rattle.site_match.specs.declared.fetch.FetchAsk.{FetchAsk}
-use Rattle.site_match.specs.Contexts.{context_of}
-use Rattle.canonical_cookie.specs.declared.refusal.CookieRefusal.{CookieRefusal}
-use Rattle.canonical_cookie.specs.Making.{made}
+use Rattle.run_report.specs.declared.item.Item.{Item}
+use Rattle.run_report.specs.declared.item.Item.TheVariants.{Reused, Refused}
+use Rattle.run_report.specs.declared.refusal_name.RefusalName.TheVariants.{Spent}
 use Rattle.script_text.specs.declared.script.Script.{Script}
-use Rattle.script_text.specs.declared.step.Step.{Step}
-use Rattle.script_text.specs.declared.step.What.{What}
-use Rattle.script_text.specs.declared.step.What.TheVariants.{Set, Get, Delete, All, Clear, Listen, Changes, Unlisten, Post, Hear, Read, Write}
-use Rattle.script_text.specs.Admitted.{IsAdmitted, IsPlaced, IsPlacedWhat}
-use Rattle.script_text.specs.Deadlocks.{steps_at}
+use Rattle.script_text.specs.Admitted.{IsAdmitted}
 use Rattle.script_run.specs.declared.ask.Ask.{Ask}
 use Rattle.script_run.specs.declared.ask.Ask.TheVariants as ask
-use Rattle.script_run.specs.Ask.{ask_of, ask_at, ask_of_line, ask_of_cookie}
+use Rattle.script_run.specs.declared.purpose.Purpose.{Purpose}
+use Rattle.script_run.specs.Ask.{MayBeAsked, ask_of}
 use Rattle.script_run.specs.Legal.{SerialJournalsAreLegal}
 use Rattle.script_run.specs.Rounds.{Giving, IsFitting, Service, committed_where, ended, is_due, load_gave, loaded, loaded_next, round, rounds, rules_of, taken}
-use Rattle.script_run.specs.Runs.{Run, begin, items_at, did, happened, called_where, called_within, asked, tried_step, next_step, tried_first, want_of}
-use Rattle.script_run.proofs.BuiltLemmas.{actor_step}
+use Rattle.script_run.specs.Reads.{Way, reuses, calls, way_of}
+use Rattle.script_run.specs.Runs.{Run, begin, items_at, holding_at, did, happened, noted, called_where, called_within, asked, went, tried_where, next_turn, tried_first, want_of}
+use Rattle.script_run.specs.Turns.{Turn, turn_now, view_at}
+use Rattle.script_run.proofs.AskOwnLemmas.{turn_may_be_asked}
 use Rattle.script_run.proofs.KeepLemmas.{where_holds}
-use Rattle.script_run.proofs.KeyLemmas.{IsKeyed, made_keyed, keys_rise}
+use Rattle.script_run.proofs.KeyLemmas.{keys_rise}
 use Rattle.script_run.proofs.LoadLemmas.{Holds, all_holds, begin_holds, gave_goes, want_holds, whole_goes}
 use Rattle.script_run.proofs.RoundLemmas.{begun_stands}
 use Rattle.script_run.proofs.SameLemmas.{call_loads, call_out, event_entries}
 use Rattle.script_run.proofs.TextLemmas.{text_self}
-
--- ---- what a step asks is well keyed
-
-abbrev AskKeyed : Script → List (List ℕ) → Option Ask → Type 0
-AskKeyed script hosts None = Unit {0}
-AskKeyed script hosts (Some (ask.Op op)) = is_well_keyed (rules_of script hosts) op ≡ true
-AskKeyed script hosts (Some (ask.Refused name)) = Unit {0}
-
-cookie_keyed : (script : Script) (hosts : List (List ℕ)) (fetch : FetchAsk) (r : Result Cookie CookieRefusal)
-    → ((c : Cookie) → r ≡ Ok c → IsKeyed script.suffixes c) → AskKeyed script hosts (Some (ask_of_cookie fetch r))
-cookie_keyed script hosts fetch (Ok c) h = (bytes_eq-Decides c.key (key_of script.suffixes (undotted c.host))).1 (h c refl)
-cookie_keyed script hosts fetch (Err e) h = tt
-
-line_keyed : (script : Script) (hosts : List (List ℕ)) (fetch : FetchAsk) (now : ℕ) (r : Result Line LineRefusal)
-    → IsPlaced script.suffixes fetch.place → AskKeyed script hosts (Some (ask_of_line script.suffixes fetch now r))
-line_keyed script hosts fetch now (Ok line) (url, place) =
-    cookie_keyed script hosts fetch (made script.suffixes line fetch.place (context_of fetch) false now)
-    (λ c is. made_keyed script.suffixes line fetch.place (context_of fetch) false now url c place is)
-line_keyed script hosts fetch now (Err e) place = tt
-
-what_keyed : (script : Script) (hosts : List (List ℕ)) (now : ℕ) (what : What) → IsPlacedWhat script.suffixes what → AskKeyed script hosts (ask_at script.suffixes now what)
-what_keyed script hosts now (Set fetch line) placed = line_keyed script hosts fetch now (read_line line) placed.place
-what_keyed script hosts now (Get fetch) placed = refl
-what_keyed script hosts now (Delete host name path) placed =
-    let key = key_of script.suffixes (undotted host) in (bytes_eq-Decides key key).1 refl
-what_keyed script hosts now All placed = refl
-what_keyed script hosts now Clear placed = refl
-what_keyed script hosts now (Listen fetch name) placed = refl
-what_keyed script hosts now (Changes listener) placed = refl
-what_keyed script hosts now (Unlisten listener) placed = refl
-what_keyed script hosts now Post placed = refl
-what_keyed script hosts now (Hear actor n) placed = refl
-what_keyed script hosts now (Read url) placed = tt
-what_keyed script hosts now (Write line url) placed = tt
-
-step_keyed : (script : Script) (hosts : List (List ℕ)) (a i : ℕ) (step : Step) → IsAdmitted script → slice_get (steps_at script.actors a) i ≡ Some step
-    → AskKeyed script hosts (ask_of script.suffixes step)
-step_keyed script hosts a i step admitted is =
-    let there = actor_step (slice_get script.actors a) i step is in
-    what_keyed script hosts step.now step.what ((admitted.each_actor a there.0 there.1).step_places i step there.2)
 
 -- ---- the run so far
 
@@ -161,6 +113,11 @@ start_is n = grind (arith, nat_tests)
 
 -- ---- a try
 
+-- an item more changes neither state nor journal
+noted_sound : (script : Script) (hosts : List (List ℕ)) (a : ℕ) (r : Run) (item : Item) → IsSound script hosts r → IsSound script hosts (noted a r item)
+noted_sound script hosts a r item sound =
+    record { state = sound.state; legal = sound.legal; holds = sound.holds; none_out = sound.none_out; places = sound.places }
+
 parts : (a b : Bool) → (a && b) ≡ true → (a ≡ true) × (b ≡ true)
 parts true b e = (refl, e)
 parts false b e = absurd cc
@@ -185,14 +142,14 @@ want_sound script hosts r awaited.All true may sound =
     happened_sound script hosts r (JarEvent WantAll) sound (own_stands script hosts r.state WantAll may refl)
     (all_holds r.state.loads sound.holds (negated r.state.loads.whole first.0) (negated r.state.loads.all_lost second.1)) sound.none_out
 
-where_sound : (script : Script) (hosts : List (List ℕ)) (a : ℕ) (r : Run) (now : ℕ) (op : Op) (o : Option CoreRefusal) → op_waits r.state op ≡ o → IsSound script hosts r
+where_sound : (script : Script) (hosts : List (List ℕ)) (a : ℕ) (r : Run) (now : ℕ) (op : Op) (why : Purpose) (o : Option CoreRefusal) → op_waits r.state op ≡ o → IsSound script hosts r
     → a < length script.actors → r.state.calls < script.limit → is_well_keyed (rules_of script hosts) op ≡ true
-    → IsSound script hosts (called_where o a r now op)
-where_sound script hosts a r now op (Some (Pending what)) waits sound low few keyed =
+    → IsSound script hosts (called_where o a r now op why)
+where_sound script hosts a r now op why (Some (Pending what)) waits sound low few keyed =
     want_sound script hosts r what (own_may_stand r.state (want_of what)) refl sound
-where_sound script hosts a r now op (Some (NotYet found)) waits sound low few keyed = sound
-where_sound script hosts a r now op (Some NoMemory) waits sound low few keyed = sound
-where_sound script hosts a r now op None waits sound low few keyed =
+where_sound script hosts a r now op why (Some (NotYet found)) waits sound low few keyed = sound
+where_sound script hosts a r now op why (Some NoMemory) waits sound low few keyed = sound
+where_sound script hosts a r now op why None waits sound low few keyed =
     let v = CallEvent a now op in
     let loads = call_loads r.state a now op in
     let h = happened_sound script hosts r v sound (call_stands script hosts r.state a now op low few keyed waits)
@@ -200,33 +157,40 @@ where_sound script hosts a r now op None waits sound low few keyed =
     (call_out r.state a now op ∙ sound.none_out) in
     record { state = h.state; legal = h.legal; holds = h.holds; none_out = h.none_out; places = h.places }
 
-within_sound : (script : Script) (hosts : List (List ℕ)) (a : ℕ) (r : Run) (now : ℕ) (op : Op) (full : Bool) → nat_le script.limit r.state.calls ≡ full → IsSound script hosts r
-    → a < length script.actors → is_well_keyed (rules_of script hosts) op ≡ true → IsSound script hosts (called_within full a r now op)
-within_sound script hosts a r now op true spent sound low keyed = record { state = sound.state; legal = sound.legal; holds = sound.holds; none_out = sound.none_out; places = sound.places }
-within_sound script hosts a r now op false spent sound low keyed =
+within_sound : (script : Script) (hosts : List (List ℕ)) (a : ℕ) (r : Run) (now : ℕ) (op : Op) (why : Purpose) (full : Bool) → nat_le script.limit r.state.calls ≡ full → IsSound script hosts r
+    → a < length script.actors → is_well_keyed (rules_of script hosts) op ≡ true → IsSound script hosts (called_within full a r now op why)
+within_sound script hosts a r now op why true spent sound low keyed = noted_sound script hosts a r (Refused Spent) sound
+within_sound script hosts a r now op why false spent sound low keyed =
     let few : r.state.calls < script.limit = grind (arith, nat_tests) in
-    where_sound script hosts a r now op (op_waits r.state op) refl sound low few keyed
+    where_sound script hosts a r now op why (op_waits r.state op) refl sound low few keyed
 
-asked_sound : (script : Script) (hosts : List (List ℕ)) (a : ℕ) (r : Run) (now : ℕ) (o : Option Ask) → IsSound script hosts r → a < length script.actors
-    → AskKeyed script hosts o → IsSound script hosts (asked script a r now o)
-asked_sound script hosts a r now None sound low keyed = sound
-asked_sound script hosts a r now (Some (ask.Op op)) sound low keyed =
-    within_sound script hosts a r now op (nat_le script.limit r.state.calls) refl sound low keyed
-asked_sound script hosts a r now (Some (ask.Refused name)) sound low keyed = record { state = sound.state; legal = sound.legal; holds = sound.holds; none_out = sound.none_out; places = sound.places }
+asked_sound : (script : Script) (hosts : List (List ℕ)) (a : ℕ) (r : Run) (now : ℕ) (why : Purpose) (o : Option Ask) → IsSound script hosts r → a < length script.actors
+    → MayBeAsked (rules_of script hosts) o → IsSound script hosts (asked script a r now why o)
+asked_sound script hosts a r now why None sound low may = sound
+asked_sound script hosts a r now why (Some (ask.Op op)) sound low may =
+    within_sound script hosts a r now op why (nat_le script.limit r.state.calls) refl sound low may
+asked_sound script hosts a r now why (Some (ask.Refused name)) sound low may = noted_sound script hosts a r (Refused name) sound
 
-step_sound : (script : Script) (hosts : List (List ℕ)) (a : ℕ) (r : Run) (o : Option Step) → IsSound script hosts r → a < length script.actors
-    → ((step : Step) → o ≡ Some step → AskKeyed script hosts (ask_of script.suffixes step)) → IsSound script hosts (tried_step script a r o)
-step_sound script hosts a r None sound low keyed = sound
-step_sound script hosts a r (Some step) sound low keyed =
-    asked_sound script hosts a r step.now (ask_of script.suffixes step) sound low (keyed step refl)
+-- a text that is used again makes no entry
+went_sound : (script : Script) (hosts : List (List ℕ)) (a : ℕ) (r : Run) (now : ℕ) (way : Way) (o : Option Ask) → IsSound script hosts r → a < length script.actors
+    → MayBeAsked (rules_of script hosts) o → IsSound script hosts (went script a r now way o)
+went_sound script hosts a r now (reuses text) o sound low may = noted_sound script hosts a r (Reused text) sound
+went_sound script hosts a r now (calls why) o sound low may = asked_sound script hosts a r now why o sound low may
+
+turn_sound : (script : Script) (hosts : List (List ℕ)) (a : ℕ) (r : Run) (o : Option Turn) → next_turn script a r ≡ o → IsAdmitted script → IsSound script hosts r
+    → a < length script.actors → IsSound script hosts (tried_where script a r o)
+turn_sound script hosts a r None is admitted sound low = sound
+turn_sound script hosts a r (Some turn) is admitted sound low =
+    let sees = view_at script.actors a in
+    went_sound script hosts a r (turn_now script turn) (way_of r.state sees (holding_at r a) turn) (ask_of script.suffixes sees turn) sound low
+    (turn_may_be_asked script hosts a (length (items_at r a)) turn admitted is)
 
 first_sound : (script : Script) (hosts : List (List ℕ)) (k : ℕ) (r : Run) → IsAdmitted script → IsSound script hosts r → k ≤ length script.actors
     → IsSound script hosts (tried_first script k r)
 first_sound script hosts zero r admitted sound few = sound
 first_sound script hosts (suc k) r admitted sound few =
     let t = tried_first script k r in
-    step_sound script hosts k t (next_step script k t) (first_sound script hosts k r admitted sound (omega (arith, few))) (omega (arith, few))
-    (λ step is. step_keyed script hosts k (length (items_at t k)) step admitted is)
+    turn_sound script hosts k t (next_turn script k t) refl admitted (first_sound script hosts k r admitted sound (omega (arith, few))) (omega (arith, few))
 
 -- ---- a load
 

@@ -1,27 +1,35 @@
-pub mod KeyLemmas
-pub mod AskLemmas
-pub mod BuiltLemmas
-pub mod SameLemmas
-pub mod TextLemmas
-pub mod LoadLemmas
-pub mod KeepLemmas
-pub mod RoundLemmas
-pub mod RunLemmas
-pub mod ClosedLemmas
-pub mod KeptLemmas
-pub mod FaultLemmas
 pub mod AnswerLemmas
-pub mod ToolLemmas
-pub mod LoadRunLemmas
-pub mod LegalLemmas
-pub mod NameLemmas
-pub mod FitLemmas
-pub mod ListenLemmas
-pub mod OverLemmas
-pub mod LeftLemmas
+pub mod AskLemmas
 pub mod AskOwnLemmas
 pub mod BesideLemmas
+pub mod CallLemmas
+pub mod ClosedLemmas
+pub mod FaultLemmas
+pub mod FitLemmas
 pub mod HeldRunLemmas
+pub mod JarLemmas
+pub mod KeepLemmas
+pub mod KeyLemmas
+pub mod LeftLemmas
+pub mod LegalLemmas
+pub mod ListenLemmas
+pub mod LoadLemmas
+pub mod NameLemmas
+pub mod OverLemmas
+pub mod OverPlayLemmas
+pub mod PlayLemmas
+pub mod PlayerLemmas
+pub mod RoundLemmas
+pub mod RunLemmas
+pub mod SameLemmas
+pub mod ServiceLemmas
+pub mod StorableLemmas
 pub mod StoredRunLemmas
-mod StoredRunFacts
+pub mod TextLemmas
+pub mod ToolLemmas
+pub mod TryLemmas
+pub mod TurnLemmas
+pub mod WayLemmas
+mod RenderFacts
 mod StandardFacts
+mod StoredRunFacts

@@ -3,7 +3,6 @@ use Rattle.std.proofs.Common.{◌≡◌, ◌<◌, ◌≤◌, ◌+◌, ◌⊎◌,
 use Rattle.std.specs.Prelude.{bytes_eq, not, ◌&&◌, ◌||◌, ◌==◌, count_by}
 use Rattle.std.specs.Option.{option_or}
 use Rattle.std.specs.List.Sorted.{IsStrictlySortedBy}
-use Rattle.std.proofs.lemmas.List.Sums.{count_by-le-length}
 use Rattle.jar_types.specs.declared.cookie.Cookie.{Cookie}
 use Rattle.jar_types.specs.declared.entry.Own.TheVariants.{Whole}
 use Rattle.jar_types.specs.declared.jar_core.Awaited.{Awaited}
@@ -362,6 +361,3 @@ begin_holds keys rises = record {
   all_wanted = λ is. absurd cc;
   whole = λ is. absurd cc;
 }
-
-pub begin_weight : (keys : List Text) → weight (not_whole keys) ≤ length keys + length keys + length keys + 3
-begin_weight keys = let some = count_by-le-length (is_free []) keys in omega (arith, some)

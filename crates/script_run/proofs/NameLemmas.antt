@@ -15,30 +15,46 @@ use Rattle.jar_types.specs.States.{JarState}
 use Rattle.jar_types.specs.Steps.{entry_of, own_may_stand}
 use Rattle.jar_types.specs.Waits.{op_waits}
 use Rattle.run_report.specs.declared.item.Item.{Item}
-use Rattle.run_report.specs.declared.item.Item.TheVariants.{At, Refused}
-use Rattle.run_report.specs.declared.refusal_name.RefusalName.{RefusalName}
+use Rattle.run_report.specs.declared.item.Item.TheVariants.{At, Asked, Reused, Refused}
 use Rattle.run_report.specs.declared.refusal_name.RefusalName.TheVariants.{Spent}
 use Rattle.script_text.specs.declared.script.Script.{Script}
-use Rattle.script_text.specs.declared.step.Step.{Step}
 use Rattle.script_run.specs.declared.ask.Ask.{Ask}
 use Rattle.script_run.specs.declared.ask.Ask.TheVariants as ask
+use Rattle.script_run.specs.declared.purpose.Purpose.{Purpose}
+use Rattle.script_run.specs.declared.purpose.Purpose.TheVariants as purpose
 use Rattle.script_run.specs.Ask.{ask_of}
 use Rattle.script_run.specs.Legal.{call_places, named_places, ItemsNameTheCalls}
+use Rattle.script_run.specs.Reads.{Way, reuses, calls, way_of}
 use Rattle.script_run.specs.Rounds.{Ends, rounds, rules_of}
-use Rattle.script_run.specs.Runs.{Run, begin, items_at, did, happened, noted, called, called_where, called_within, asked, tried_step, next_step, want_of}
+use Rattle.script_run.specs.Runs.{Run, begin, items_at, holding_at, item_of, did, happened, noted, called, called_where, called_within, asked, went, tried_where, next_turn, want_of}
+use Rattle.script_run.specs.Turns.{Turn, turn_now, view_at}
 use Rattle.script_run.proofs.ClosedLemmas.{Closed, closed_flush, closed_rounds}
 
 -- ---- one more item and one more entry
 
-named_push : (items : List Item) (p : ℕ) → named_places (items ++ At p ∷ []) ≡ named_places items ++ p ∷ []
-named_push [] p = refl
-named_push (At q ∷ items) p = ap (λ ps. q ∷ ps) (named_push items p)
-named_push (Refused name ∷ items) p = named_push items p
+-- the item of a call names its place
+named_one : (why : Purpose) (p : ℕ) → named_places (item_of why p ∷ []) ≡ p ∷ []
+named_one purpose.Call p = refl
+named_one purpose.Bind p = refl
+named_one (purpose.Read cause) p = refl
 
-refused_push : (items : List Item) (name : RefusalName) → named_places (items ++ Refused name ∷ []) ≡ named_places items
-refused_push [] name = refl
-refused_push (At q ∷ items) name = ap (λ ps. q ∷ ps) (refused_push items name)
-refused_push (Refused other ∷ items) name = refused_push items name
+named_push : (items : List Item) (why : Purpose) (p : ℕ) → named_places (items ++ item_of why p ∷ []) ≡ named_places items ++ p ∷ []
+named_push [] why p = named_one why p
+named_push (At q ∷ items) why p = ap (λ ps. q ∷ ps) (named_push items why p)
+named_push (Asked q cause ∷ items) why p = ap (λ ps. q ∷ ps) (named_push items why p)
+named_push (Reused text ∷ items) why p = named_push items why p
+named_push (Refused name ∷ items) why p = named_push items why p
+
+-- an item that names no place, as of a refusal and of a text that is used again
+abbrev IsNameless : Item → Type 0
+IsNameless item = named_places (item ∷ []) ≡ []
+
+nameless_push : (items : List Item) (item : Item) → IsNameless item → named_places (items ++ item ∷ []) ≡ named_places items
+nameless_push [] item none = none
+nameless_push (At q ∷ items) item none = ap (λ ps. q ∷ ps) (nameless_push items item none)
+nameless_push (Asked q cause ∷ items) item none = ap (λ ps. q ∷ ps) (nameless_push items item none)
+nameless_push (Reused text ∷ items) item none = nameless_push items item none
+nameless_push (Refused name ∷ items) item none = nameless_push items item none
 
 -- the place of a call where it is this caller's
 abbrev added : Bool → ℕ → List ℕ
@@ -87,19 +103,19 @@ length_no_items : (n : ℕ) → length (no_items n) ≡ n
 length_no_items zero = refl
 length_no_items (suc n) = ap suc (length_no_items n)
 
--- a refusal names nothing
-refused_at : (n b a : ℕ) (r : Run) (name : RefusalName) → Named n r → b < n → (a ≡ b) ⊎ (a ≢ b) → a < n
-    → named_places (items_at (noted b r (Refused name)) a) ≡ call_places a 1 r.journal
-refused_at n b a r name all low (inl same) within =
-    rw same (ap named_places (get_or-set_same r.items b (items_at r b ++ Refused name ∷ []) [] (omega (arith, low, all.many)))
-    ∙ (refused_push (items_at r b) name ∙ all.named b low))
-refused_at n b a r name all low (inr other) within =
-    ap named_places (get_or-set_other r.items b a (items_at r b ++ Refused name ∷ []) [] other) ∙ all.named a within
+-- an item more that names nothing
+noted_at : (n b a : ℕ) (r : Run) (item : Item) → IsNameless item → Named n r → b < n → (a ≡ b) ⊎ (a ≢ b) → a < n
+    → named_places (items_at (noted b r item) a) ≡ call_places a 1 r.journal
+noted_at n b a r item none all low (inl same) within =
+    rw same (ap named_places (get_or-set_same r.items b (items_at r b ++ item ∷ []) [] (omega (arith, low, all.many)))
+    ∙ (nameless_push (items_at r b) item none ∙ all.named b low))
+noted_at n b a r item none all low (inr other) within =
+    ap named_places (get_or-set_other r.items b a (items_at r b ++ item ∷ []) [] other) ∙ all.named a within
 
-refused_named : (n b : ℕ) (r : Run) (name : RefusalName) → Named n r → b < n → Named n (noted b r (Refused name))
-refused_named n b r name all low = record {
+noted_named : (n b : ℕ) (r : Run) (item : Item) → IsNameless item → Named n r → b < n → Named n (noted b r item)
+noted_named n b r item none all low = record {
   many = length-set r.items b _ ∙ all.many;
-  named = λ a within. refused_at n b a r name all low (cases_eq a b) within;
+  named = λ a within. noted_at n b a r item none all low (cases_eq a b) within;
 }
 
 same_is : (n : ℕ) → (n == n) ≡ true
@@ -108,19 +124,19 @@ same_is n = grind (arith, nat_tests)
 other_is : (b a : ℕ) → a ≢ b → (b == a) ≡ false
 other_is b a ne = grind (arith, nat_tests)
 
-called_at : (n b a : ℕ) (r : Run) (now : ℕ) (op : Op) → Named n r → b < n → (a ≡ b) ⊎ (a ≢ b) → a < n
-    → named_places (items_at (called b r now op) a) ≡ call_places a 1 (called b r now op).journal
-called_at n b a r now op all low (inl same) within =
+called_at : (n b a : ℕ) (r : Run) (now : ℕ) (op : Op) (why : Purpose) → Named n r → b < n → (a ≡ b) ⊎ (a ≢ b) → a < n
+    → named_places (items_at (called b r now op why) a) ≡ call_places a 1 (called b r now op why).journal
+called_at n b a r now op why all low (inl same) within =
     let place = length (r.journal ++ entry_of r.state (CallEvent b now op) ∷ []) in
     let next : place ≡ 1 + length r.journal = length-append r.journal (entry_of r.state (CallEvent b now op) ∷ []) ∙ omega arith in
-    rw same (ap named_places (get_or-set_same r.items b (items_at r b ++ At place ∷ []) [] (omega (arith, low, all.many)))
-    ∙ (named_push (items_at r b) place
+    rw same (ap named_places (get_or-set_same r.items b (items_at r b ++ item_of why place ∷ []) [] (omega (arith, low, all.many)))
+    ∙ (named_push (items_at r b) why place
     ∙ (ap (λ places. places ++ place ∷ []) (all.named b low)
     ∙ (ap (λ p. call_places b 1 r.journal ++ p ∷ []) next
     ∙ sym (call_push b b 1 r.journal r.state now op ∙ ap (λ own. call_places b 1 r.journal ++ added own (1 + length r.journal)) (same_is b))))))
-called_at n b a r now op all low (inr other) within =
+called_at n b a r now op why all low (inr other) within =
     let place = length (r.journal ++ entry_of r.state (CallEvent b now op) ∷ []) in
-    ap named_places (get_or-set_other r.items b a (items_at r b ++ At place ∷ []) [] other)
+    ap named_places (get_or-set_other r.items b a (items_at r b ++ item_of why place ∷ []) [] other)
     ∙ (all.named a within
     ∙ sym (call_push a b 1 r.journal r.state now op
     ∙ (ap (λ own. call_places a 1 r.journal ++ added own (1 + length r.journal)) (other_is b a other) ∙ append-nil (call_places a 1 r.journal))))
@@ -135,31 +151,37 @@ did_named : (n : ℕ) (may : Bool) (r : Run) (own : Own) → Named n r → Named
 did_named n true r own all = own_named n r own all
 did_named n false r own all = all
 
-where_named : (n b : ℕ) (r : Run) (now : ℕ) (op : Op) (o : Option CoreRefusal) → Named n r → b < n → Named n (called_where o b r now op)
-where_named n b r now op (Some (Pending what)) all low = did_named n (own_may_stand r.state (want_of what)) r (want_of what) all
-where_named n b r now op (Some (NotYet found)) all low = all
-where_named n b r now op (Some NoMemory) all low = all
-where_named n b r now op None all low = record {
+where_named : (n b : ℕ) (r : Run) (now : ℕ) (op : Op) (why : Purpose) (o : Option CoreRefusal) → Named n r → b < n → Named n (called_where o b r now op why)
+where_named n b r now op why (Some (Pending what)) all low = did_named n (own_may_stand r.state (want_of what)) r (want_of what) all
+where_named n b r now op why (Some (NotYet found)) all low = all
+where_named n b r now op why (Some NoMemory) all low = all
+where_named n b r now op why None all low = record {
   many = length-set r.items b _ ∙ all.many;
-  named = λ a within. called_at n b a r now op all low (cases_eq a b) within;
+  named = λ a within. called_at n b a r now op why all low (cases_eq a b) within;
 }
 
-within_named : (n b : ℕ) (r : Run) (now : ℕ) (op : Op) (full : Bool) → Named n r → b < n → Named n (called_within full b r now op)
-within_named n b r now op true all low = refused_named n b r Spent all low
-within_named n b r now op false all low = where_named n b r now op (op_waits r.state op) all low
+within_named : (n b : ℕ) (r : Run) (now : ℕ) (op : Op) (why : Purpose) (full : Bool) → Named n r → b < n → Named n (called_within full b r now op why)
+within_named n b r now op why true all low = noted_named n b r (Refused Spent) refl all low
+within_named n b r now op why false all low = where_named n b r now op why (op_waits r.state op) all low
 
-asked_named : (script : Script) (n b : ℕ) (r : Run) (now : ℕ) (o : Option Ask) → Named n r → b < n → Named n (asked script b r now o)
-asked_named script n b r now None all low = all
-asked_named script n b r now (Some (ask.Op op)) all low = within_named n b r now op (nat_le script.limit r.state.calls) all low
-asked_named script n b r now (Some (ask.Refused name)) all low = refused_named n b r name all low
+asked_named : (script : Script) (n b : ℕ) (r : Run) (now : ℕ) (why : Purpose) (o : Option Ask) → Named n r → b < n → Named n (asked script b r now why o)
+asked_named script n b r now why None all low = all
+asked_named script n b r now why (Some (ask.Op op)) all low = within_named n b r now op why (nat_le script.limit r.state.calls) all low
+asked_named script n b r now why (Some (ask.Refused name)) all low = noted_named n b r (Refused name) refl all low
 
-step_named : (script : Script) (n b : ℕ) (r : Run) (o : Option Step) → Named n r → b < n → Named n (tried_step script b r o)
-step_named script n b r None all low = all
-step_named script n b r (Some step) all low = asked_named script n b r step.now (ask_of script.suffixes step) all low
+went_named : (script : Script) (n b : ℕ) (r : Run) (now : ℕ) (way : Way) (o : Option Ask) → Named n r → b < n → Named n (went script b r now way o)
+went_named script n b r now (reuses text) o all low = noted_named n b r (Reused text) refl all low
+went_named script n b r now (calls why) o all low = asked_named script n b r now why o all low
+
+turn_named : (script : Script) (n b : ℕ) (r : Run) (o : Option Turn) → Named n r → b < n → Named n (tried_where script b r o)
+turn_named script n b r None all low = all
+turn_named script n b r (Some turn) all low =
+    let sees = view_at script.actors b in
+    went_named script n b r (turn_now script turn) (way_of r.state sees (holding_at r b) turn) (ask_of script.suffixes sees turn) all low
 
 named_closed : (script : Script) → Closed script (Named (length script.actors))
 named_closed script = record {
-  tries = λ a r low all. step_named script (length script.actors) a r (next_step script a r) all low;
+  tries = λ a r low all. turn_named script (length script.actors) a r (next_turn script a r) all low;
   own = λ r own all. own_named (length script.actors) r own all;
   batch = λ r pending kept all. record { many = all.many; named = all.named };
 }

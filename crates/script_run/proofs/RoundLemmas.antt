@@ -1,8 +1,7 @@
--- That the rounds of a run end: each leaves less to do, of steps or of loads.
-use Rattle.std.proofs.Common.{◌≡◌, ◌≢◌, ◌<◌, ◌≤◌, ◌+◌, ◌⊎◌, ℕ, zero, suc, List, [], ◌∷◌, Bool, true, false, Option, None, Some, length, map, replicate, slice_get, slice_index, refl, ap, sym, ◌∙◌, arith, subst, inl, inr, ⊎_elim}
-use Rattle.std.specs.Prelude.{◌&&◌, ◌==◌, sum_by}
+-- That the rounds of a run end: each leaves less to do, of turns or of loads.
+use Rattle.std.proofs.Common.{◌≡◌, ◌≢◌, ◌<◌, ◌≤◌, ◌+◌, ◌-◌, ◌⊎◌, ℕ, zero, suc, List, [], ◌∷◌, Bool, true, false, Option, None, Some, length, replicate, slice_get, slice_index, refl, ap, sym, ◌∙◌, arith, subst, inl, inr, ⊎_elim}
+use Rattle.std.specs.Prelude.{◌&&◌, ◌==◌, slice_index_or}
 use Rattle.std.specs.List.Sorted.{IsStrictlySortedBy}
-use Rattle.std.proofs.lemmas.List.Sums.{sum_by-cons}
 use Rattle.std.proofs.lemmas.Bool.{cases_eq}
 use Rattle.std.proofs.lemmas.Bool.Decides.{nat_tests}
 use Rattle.jar_types.specs.declared.cookie.Cookie.{Cookie}
@@ -13,73 +12,76 @@ use Rattle.jar_types.specs.Loads.{Loads, is_the, may_load, next_key}
 use Rattle.jar_types.specs.States.{JarState}
 use Rattle.jar_types.specs.Steps.{own_may_stand}
 use Rattle.jar_types.specs.Tallies.{tally_of}
+use Rattle.run_report.specs.declared.item.Item.{Item}
 use Rattle.script_text.specs.declared.actor.Actor.{Actor}
 use Rattle.script_text.specs.declared.script.Script.{Script}
-use Rattle.script_text.specs.declared.step.Step.{Step}
-use Rattle.script_text.specs.declared.step.TheConstants.{MOST_STEPS}
 use Rattle.script_text.specs.Admitted.{IsAdmitted}
-use Rattle.script_text.specs.Deadlocks.{Positions, steps_at, steps_left, post_counts, waits, AllWait, AllHaveEnded}
+use Rattle.script_text.specs.Deadlocks.{AllWait, at_start, post_counts}
 use Rattle.script_text.proofs.DeadlockLemmas.{within_steps}
 use Rattle.script_text.proofs.PostLemmas.{post_counts-at_start}
 use Rattle.script_text.proofs.OrderLemmas.{waiting_actors_have_ended}
-use Rattle.run_report.specs.declared.item.Item.{Item}
-use Rattle.script_run.specs.Built.{IsBuilt}
 use Rattle.script_run.specs.Rounds.{Giving, Service, committed_where, ended, flushed, is_due, load_gave, loaded, loaded_next, round, taken}
-use Rattle.script_run.specs.Runs.{Run, begin, did, happened, positions, left, next_step, tried, tried_first, is_done}
-use Rattle.script_run.proofs.KeepLemmas.{Keeps, burden, goes, length_at, length_positions}
-use Rattle.script_run.proofs.LoadLemmas.{AreWanted, Holds, LoadGoes, begin_holds, begin_weight, gave_goes, next_is, weight, whole_goes}
+use Rattle.script_run.specs.Runs.{Run, begin, did, happened, is_done, items_at, left, next_turn, positions, tried, tried_first}
+use Rattle.script_run.specs.Turns.{Turn, binds, does, lead_of, positions_of, turns_at, turns_left}
+use Rattle.script_run.proofs.KeepLemmas.{Keeps, burden, goes, waits_yet}
+use Rattle.script_run.proofs.LoadLemmas.{AreWanted, Holds, LoadGoes, begin_holds, gave_goes, next_is, weight, whole_goes}
 use Rattle.script_run.proofs.TextLemmas.{text_self}
+use Rattle.script_run.proofs.TurnLemmas.{AllBound, ended_left, length_positions, step_next, turn_waits}
 
 -- ---- the tries of a round
 
--- the first tries keep that; where none did a step, each actor of them waits for posts or has ended, or something is wanted
+-- each of the first actors has no turn or waits for posts
+abbrev AreStuck : Script → ℕ → Run → Type 0
+AreStuck script k r = (a : ℕ) → a < k → (turn : Turn) → next_turn script a r ≡ Some turn → waits_yet script r turn ≡ true
+
+-- the first tries keep that; where none did a turn, each actor of them waits for posts or has ended, or something is wanted
 record GoFirst (script : Script) (k : ℕ) (r t : Run) : Type 0 where
   keeps : Keeps script t
   never_back : left script t ≤ left script r
   lighter : burden script t ≤ burden script r
-  same : left script t ≡ left script r → positions t ≡ positions r
-  still : left script t ≡ left script r → AreWanted t.state.loads ⊎ ((a : ℕ) → a < k → (step : Step) → next_step script a r ≡ Some step
-      → waits script.actors (positions r) step.what ≡ true)
+  same : left script t ≡ left script r → t.items ≡ r.items
+  still : left script t ≡ left script r → AreWanted t.state.loads ⊎ AreStuck script k r
 
--- where positions are the same, so are next steps
-next_same : (script : Script) (a : ℕ) (r t : Run) → positions t ≡ positions r → next_step script a t ≡ next_step script a r
-next_same script a r t same =
-    ap (slice_get (steps_at script.actors a)) (sym (length_at t.items a) ∙ (ap (λ ps. slice_index ps a) same ∙ length_at r.items a))
+-- where items are the same, so are next turns and who waits
+next_same : (script : Script) (a : ℕ) (r t : Run) → t.items ≡ r.items → next_turn script a t ≡ next_turn script a r
+next_same script a r t same = ap (λ lists. slice_get (turns_at script.actors a) (length (slice_index_or lists a []))) same
 
-still_at : (script : Script) (k a : ℕ) (r t : Run) (step : Step) → (a ≡ k) ⊎ (a ≢ k) → a < suc k → next_step script a r ≡ Some step → positions t ≡ positions r
-    → ((a : ℕ) → a < k → (step : Step) → next_step script a r ≡ Some step → waits script.actors (positions r) step.what ≡ true)
-    → ((step : Step) → next_step script k t ≡ Some step → waits script.actors (positions t) step.what ≡ true)
-    → waits script.actors (positions r) step.what ≡ true
-still_at script k a r t step (inl same) low is unmoved first last =
-    let there : next_step script k t ≡ Some step = next_same script k r t unmoved ∙ (ap (λ i. next_step script i r) (sym same) ∙ is) in
-    subst (λ ps. waits script.actors ps step.what ≡ true) unmoved (last step there)
-still_at script k a r t step (inr other) low is unmoved first last = first a (omega (arith, low, other)) step is
+waits_same : (script : Script) (r t : Run) (turn : Turn) → t.items ≡ r.items → waits_yet script t turn ≡ waits_yet script r turn
+waits_same script r t turn same = ap (λ lists. turn_waits (post_counts script.actors (positions_of script.actors lists)) turn) same
 
--- what the next actor's step says, where something is wanted or not
-next_waits : (script : Script) (k : ℕ) (t u : Run) → (o : Option Step) → next_step script k t ≡ o
-    → ((step : Step) → next_step script k t ≡ Some step → (waits script.actors (positions t) step.what ≡ true) ⊎ AreWanted u.state.loads)
-    → AreWanted u.state.loads ⊎ ((step : Step) → next_step script k t ≡ Some step → waits script.actors (positions t) step.what ≡ true)
-next_waits script k t u None is says = inr (λ step there. let clash : None ≡ Some step = sym is ∙ there in absurd cc)
-next_waits script k t u (Some step) is says =
+still_at : (script : Script) (k a : ℕ) (r t : Run) (turn : Turn) → (a ≡ k) ⊎ (a ≢ k) → a < suc k → next_turn script a r ≡ Some turn → t.items ≡ r.items
+    → AreStuck script k r → ((turn : Turn) → next_turn script k t ≡ Some turn → waits_yet script t turn ≡ true)
+    → waits_yet script r turn ≡ true
+still_at script k a r t turn (inl same) low is unmoved first last =
+    let there : next_turn script k t ≡ Some turn = next_same script k r t unmoved ∙ (ap (λ i. next_turn script i r) (sym same) ∙ is) in
+    sym (waits_same script r t turn unmoved) ∙ last turn there
+still_at script k a r t turn (inr other) low is unmoved first last = first a (omega (arith, low, other)) turn is
+
+-- what the next actor's turn says, where something is wanted or not
+next_waits : (script : Script) (k : ℕ) (t u : Run) → (o : Option Turn) → next_turn script k t ≡ o
+    → ((turn : Turn) → next_turn script k t ≡ Some turn → (waits_yet script t turn ≡ true) ⊎ AreWanted u.state.loads)
+    → AreWanted u.state.loads ⊎ ((turn : Turn) → next_turn script k t ≡ Some turn → waits_yet script t turn ≡ true)
+next_waits script k t u None is says = inr (λ turn there. let clash : None ≡ Some turn = sym is ∙ there in absurd cc)
+next_waits script k t u (Some turn) is says =
     ⊎_elim
-    (λ (w : waits script.actors (positions t) step.what ≡ true). inr (λ other there.
-    let same : step ≡ other = let e : Some step ≡ Some other = sym is ∙ there in cc in
+    (λ (w : waits_yet script t turn ≡ true). inr (λ other there.
+    let same : turn ≡ other = let e : Some turn ≡ Some other = sym is ∙ there in cc in
     rw (sym same) w))
-    (λ (w : AreWanted u.state.loads). inl w) (says step is)
+    (λ (w : AreWanted u.state.loads). inl w) (says turn is)
 
-go_first : (script : Script) (k : ℕ) (r : Run) → IsAdmitted script → IsBuilt script → Keeps script r → k ≤ length script.actors
+go_first : (script : Script) (k : ℕ) (r : Run) → IsAdmitted script → Keeps script r → k ≤ length script.actors
     → GoFirst script k r (tried_first script k r)
-go_first script zero r admitted built keeps few = record {
+go_first script zero r admitted keeps few = record {
   keeps = keeps;
   never_back = omega arith;
   lighter = omega arith;
   same = λ e. refl;
   still = λ e. inr (λ a low. absurd (omega (arith, low)));
 }
-go_first script (suc k) r admitted built keeps few =
+go_first script (suc k) r admitted keeps few =
     let t = tried_first script k r in
-    let first = go_first script k r admitted built keeps (omega (arith, few)) in
-    let last = goes script k t admitted built first.keeps (omega (arith, few)) in
+    let first = go_first script k r admitted keeps (omega (arith, few)) in
+    let last = goes script k t admitted first.keeps (omega (arith, few)) in
     let u = tried script k t in
     let back = first.never_back in
     let further = last.never_back in
@@ -96,41 +98,39 @@ go_first script (suc k) r admitted built keeps few =
       still = λ e.
           let mid : left script t ≡ left script r = omega (arith, back, further, e) in
           let end : left script u ≡ left script t = omega (arith, back, further, e) in
-          let unmoved : positions t ≡ positions r = first.same mid in
+          let unmoved : t.items ≡ r.items = first.same mid in
           ⊎_elim
           (λ (w : AreWanted t.state.loads). inl (last.wanted end w))
-          (λ (all : (a : ℕ) → a < k → (step : Step) → next_step script a r ≡ Some step → waits script.actors (positions r) step.what ≡ true).
+          (λ (all : AreStuck script k r).
           ⊎_elim
           (λ (w : AreWanted u.state.loads). inl w)
-          (λ (own : (step : Step) → next_step script k t ≡ Some step → waits script.actors (positions t) step.what ≡ true).
-          inr (λ a low step is. still_at script k a r t step (cases_eq a k) low is unmoved all own))
-          (next_waits script k t u (next_step script k t) refl (last.still end)))
+          (λ (own : (turn : Turn) → next_turn script k t ≡ Some turn → waits_yet script t turn ≡ true).
+          inr (λ a low turn is. still_at script k a r t turn (cases_eq a k) low is unmoved all own))
+          (next_waits script k t u (next_turn script k t) refl (last.still end)))
           (first.still mid);
     }
 
--- actors that have all ended have no step left
-ended_left : (actors : List Actor) (places : Positions) → length places ≡ length actors → AllHaveEnded actors places → steps_left actors places ≡ 0
-ended_left [] places e all = refl
-ended_left (x ∷ xs) [] e all = refl
-ended_left (x ∷ xs) (n ∷ ns) e all =
-    let first : length x.steps ≤ n = all 0 in
-    let rest = ended_left xs ns (omega (arith, e)) (λ a. all (suc a)) in
-    omega (arith, first, rest)
+-- an actor whose next turn is there is one of the script's
+turn_within : (actors : List Actor) (a n : ℕ) (turn : Turn) → slice_get (turns_at actors a) n ≡ Some turn → a < length actors
+turn_within [] a n turn is = absurd cc
+turn_within (x ∷ xs) zero n turn is = omega arith
+turn_within (x ∷ xs) (suc a) n turn is = let low = turn_within xs a n turn is in omega (arith, low)
 
--- where all actors wait for posts, no step is left
-stuck_left : (script : Script) (r : Run) → IsAdmitted script → Keeps script r
-    → ((a : ℕ) → a < length script.actors → (step : Step) → next_step script a r ≡ Some step → waits script.actors (positions r) step.what ≡ true)
-    → left script r ≡ 0
-stuck_left script r admitted keeps still =
-    let many : length (positions r) ≡ length script.actors = length_positions r.items ∙ keeps.many in
-    let all_wait : AllWait script.actors (positions r) = λ a step is.
-    still a (within_steps script.actors a (slice_index (positions r) a) step is) step
-    (ap (slice_get (steps_at script.actors a)) (sym (length_at r.items a)) ∙ is) in
-    ended_left script.actors (positions r) many (waiting_actors_have_ended script.actors (positions r) many admitted.no_deadlock all_wait)
+-- where all actors wait for posts, no turn is left
+stuck_left : (script : Script) (r : Run) → IsAdmitted script → Keeps script r → AreStuck script (length script.actors) r → left script r ≡ 0
+stuck_left script r admitted keeps stuck =
+    let many = length_positions script.actors r.items keeps.many in
+    let bound : AllBound script.actors r.items = λ a is.
+    let waiting : false ≡ true = stuck a (turn_within script.actors a (length (items_at r a)) binds is) binds is in absurd cc in
+    let all_wait : AllWait script.actors (positions script r) = λ a step is.
+    stuck a (within_steps script.actors a (slice_index (positions script r) a) step is) (does step)
+    (step_next script.actors r.items a step keeps.many bound is) in
+    ended_left script.actors r.items keeps.many bound
+    (waiting_actors_have_ended script.actors (positions script r) many admitted.no_deadlock all_wait)
 
 -- ---- the load of a round
 
--- a load keeps that and does no step; where something is wanted, less of the loading is left
+-- a load keeps that and does no turn; where something is wanted, less of the loading is left
 pub record Loaded (script : Script) (r t : Run) : Type 0 where
   pub keeps : Keeps script t
   pub same : left script t ≡ left script r
@@ -140,14 +140,14 @@ pub record Loaded (script : Script) (r t : Run) : Type 0 where
 loaded_keeps : (script : Script) (r t : Run) → Keeps script r → t.items ≡ r.items → t.state.posts ≡ r.state.posts → t.state.calls ≡ r.state.calls
     → LoadGoes r.state.loads t.state.loads → Loaded script r t
 loaded_keeps script r t keeps items posts calls goes =
-    let places : positions t ≡ positions r = ap (map length) items in
+    let places : positions script t ≡ positions script r = ap (positions_of script.actors) items in
     record {
       keeps = record {
         many = ap length items ∙ keeps.many;
         told = λ few b. ap (tally_of b) posts ∙ (keeps.told (subst (λ n. n < script.limit) calls few) b ∙ ap (λ ps. slice_index (post_counts script.actors ps) b) (sym places));
         holds = goes.holds;
       };
-      same = ap (steps_left script.actors) places;
+      same = ap (turns_left script.actors) items;
       light = goes.never_back;
       nearer = goes.nearer;
     }
@@ -214,7 +214,7 @@ flush_unmoved true commits r =
 
 unmoved_keeps : (script : Script) (r t : Run) → Unmoved r t → Keeps script r → Keeps script t
 unmoved_keeps script r t un keeps =
-    let places : positions t ≡ positions r = ap (map length) un.items in record {
+    let places : positions script t ≡ positions script r = ap (positions_of script.actors) un.items in record {
       many = ap length un.items ∙ keeps.many;
       told = λ few b. ap (tally_of b) un.posts ∙ (keeps.told (subst (λ n. n < script.limit) un.calls few) b ∙ ap (λ ps. slice_index (post_counts script.actors ps) b) (sym places));
       holds = subst Holds (sym un.loads) keeps.holds;
@@ -225,11 +225,11 @@ flush_items force commits r = (flush_unmoved (is_due force r) commits r).items
 
 -- ---- a round
 
--- how much there is to do: twice the steps that are left, and what of the loading is left
+-- how much there is to do: twice the turns that are left, and what of the loading is left
 abbrev pub to_do : Script → Run → ℕ
 to_do script r = left script r + burden script r
 
--- a round keeps that, and while a step is left, less is to do behind it
+-- a round keeps that, and while a turn is left, less is to do behind it
 pub record Rounds (script : Script) (r t : Run) : Type 0 where
   pub keeps : Keeps script t
   pub never_more : to_do script t ≤ to_do script r
@@ -238,7 +238,7 @@ pub record Rounds (script : Script) (r t : Run) : Type 0 where
 some_left : (n : ℕ) → (n == 0) ≡ false → 0 < n
 some_left n e = grind (arith, nat_tests)
 
--- a step was done, or something is wanted
+-- a turn was done, or something is wanted
 lighter_where : (script : Script) (r t u : Run) → IsAdmitted script → Keeps script r → GoFirst script (length script.actors) r t → Loaded script t u → is_done script r ≡ false
     → (left script t ≡ left script r) ⊎ (left script t ≢ left script r) → to_do script u < to_do script r
 lighter_where script r t u admitted keeps go load not_yet (inr other) =
@@ -252,21 +252,21 @@ lighter_where script r t u admitted keeps go load not_yet (inl equal) =
     let same = load.same in
     ⊎_elim
     (λ (w : AreWanted t.state.loads). let less = load.nearer w in omega (arith, light, less, same, equal))
-    (λ (all : (a : ℕ) → a < length script.actors → (step : Step) → next_step script a r ≡ Some step → waits script.actors (positions r) step.what ≡ true).
+    (λ (all : AreStuck script (length script.actors) r).
     let none = stuck_left script r admitted keeps all in
     let some = some_left (left script r) not_yet in
     absurd (omega (arith, none, some)))
     (go.still equal)
 
-pub round_goes : (script : Script) (service : Service) (r : Run) → IsAdmitted script → IsBuilt script → Keeps script r → Rounds script r (round script service r)
-round_goes script service r admitted built keeps =
+pub round_goes : (script : Script) (service : Service) (r : Run) → IsAdmitted script → Keeps script r → Rounds script r (round script service r)
+round_goes script service r admitted keeps =
     let t = tried_first script (length script.actors) r in
-    let go = go_first script (length script.actors) r admitted built keeps (omega arith) in
+    let go = go_first script (length script.actors) r admitted keeps (omega arith) in
     let u = loaded script.start service.gives t in
     let load = loads script t service.gives go.keeps in
     let v = flushed false service.commits u in
     let un = flush_unmoved (is_due false u) service.commits u in
-    let places : left script v ≡ left script u = ap (λ lists. steps_left script.actors (map length lists)) un.items in
+    let places : left script v ≡ left script u = ap (turns_left script.actors) un.items in
     let weights : weight v.state.loads ≡ weight u.state.loads = ap weight un.loads in
     let back = go.never_back in
     let light = go.lighter in
@@ -289,13 +289,15 @@ flush_keeps script force commits r keeps = unmoved_keeps script r (flushed force
 abbrev no_items : ℕ → List (List Item)
 no_items n = replicate n []
 
-no_lengths : (n : ℕ) → map length (no_items n) ≡ replicate n 0
-no_lengths zero = refl
-no_lengths (suc n) = ap (λ ns. 0 ∷ ns) (no_lengths n)
-
 length_no_items : (n : ℕ) → length (no_items n) ≡ n
 length_no_items zero = refl
 length_no_items (suc n) = ap suc (length_no_items n)
+
+begin_positions : (actors : List Actor) → positions_of actors (no_items (length actors)) ≡ at_start actors
+begin_positions [] = refl
+begin_positions (x ∷ xs) =
+    let none : 0 - lead_of x ≡ 0 = omega arith in
+    ap (λ n. n ∷ positions_of xs (no_items (length xs))) none ∙ ap (λ places. 0 ∷ places) (begin_positions xs)
 
 zero_at : (n b : ℕ) → slice_index (replicate n 0) b ≡ 0
 zero_at zero b = refl
@@ -306,23 +308,7 @@ pub begin_keeps : (script : Script) (keys : List (List ℕ)) → IsStrictlySorte
 begin_keeps script keys rises = record {
   many = length_no_items (length script.actors);
   told = λ few b.
-      sym (ap (λ places. slice_index (post_counts script.actors places) b) (no_lengths (length script.actors))
+      sym (ap (λ places. slice_index (post_counts script.actors places) b) (begin_positions script.actors)
       ∙ (ap (λ counts. slice_index counts b) (post_counts-at_start script.actors) ∙ zero_at (length script.actors) b));
   holds = begin_holds keys rises;
 }
-
-left_within : (actors : List Actor) (places : Positions) → steps_left actors places ≤ sum_by (λ (actor : Actor). length actor.steps) actors
-left_within [] places = omega arith
-left_within (x ∷ xs) [] = omega arith
-left_within (x ∷ xs) (n ∷ ns) =
-    let rest = left_within xs ns in
-    omega (arith, rest, sum_by-cons (λ (actor : Actor). length actor.steps) x xs)
-
--- at the begin there isn't much to do
-pub begin_to_do : (script : Script) (keys : List (List ℕ)) → IsAdmitted script
-    → to_do script (begin script keys) ≤ MOST_STEPS + MOST_STEPS + (length keys + length keys + length keys + 3)
-begin_to_do script keys admitted =
-    let steps = left_within script.actors (positions (begin script keys)) in
-    let most = admitted.few_steps in
-    let light = begin_weight keys in
-    omega (arith, steps, most, light)

@@ -1,26 +1,63 @@
 -- How the rounds of a run go on, and how it ends.
-use Rattle.std.proofs.Common.{◌≡◌, ◌<◌, ◌≤◌, ◌+◌, ◌*◌, ◌^◌, ℕ, suc, zero, List, [], ◌∷◌, true, false, length, ap, sym, ◌∙◌, arith, subst}
+use Rattle.std.proofs.Common.{◌≡◌, ◌<◌, ◌≤◌, ℕ, suc, zero, List, [], ◌∷◌, Bool, true, false, length, ap, sym, ◌∙◌, arith, subst}
 use Rattle.std.specs.List.{AllByRecursion}
 use Rattle.std.specs.List.Sorted.{IsStrictlySortedBy}
+use Rattle.atomic_table.specs.Seated.{TableId}
 use Rattle.jar_types.specs.declared.row.Row.{Row}
 use Rattle.jar_types.specs.Ids.{text_cmp}
 use Rattle.jar_types.specs.Journals.{stored_keys}
 use Rattle.jar_types.specs.Stored.{hosts_of}
+use Rattle.locked_jar.specs.LockedJars.{LockedJar}
 use Rattle.script_text.specs.declared.script.Script.{Script}
-use Rattle.script_text.specs.declared.actor.TheConstants.{MOST_ACTORS}
 use Rattle.script_text.specs.Admitted.{IsAdmitted}
-use Rattle.script_run.specs.declared.rounds.TheConstants.{MOST_HOSTS}
-use Rattle.script_run.specs.Built.{IsBuilt}
-use Rattle.script_run.specs.Rounds.{Ends, GoOn, GoOnOver, IsFitting, Over, Service, flushed, flushed_over, held_where, is_due, loaded, round, round_over, rounds, rounds_over, rules_of}
+use Rattle.shared_jar.specs.Faults.{CountsFaults, faults_in}
+use Rattle.store_vault.specs.declared.stored.Stored.{Stored}
+use Rattle.script_run.specs.Players.{ArePlaying, PlayersStanding}
+use Rattle.script_run.specs.Rounds.{Ends, GoOn, GoOnOver, IsFitting, Over, Service, flushed, flushed_over, gives_of, held_where, is_due, loaded, round, round_over, rounds, rounds_over, rules_of}
 use Rattle.script_run.specs.Runs.{Run, is_done, tried_first}
 use Rattle.script_run.specs.Services.{EndedOver, FlushedBy, LoadedBy, RoundBy, RoundOver}
+use Rattle.script_run.proofs.FaultLemmas.{first_faults, flushed_more, loaded_more}
 use Rattle.script_run.proofs.KeepLemmas.{Keeps}
-use Rattle.script_run.proofs.KeyLemmas.{few_keys}
-use Rattle.script_run.proofs.RoundLemmas.{begin_keeps, begin_to_do, round_goes, to_do}
+use Rattle.script_run.proofs.RoundLemmas.{begin_keeps, round_goes, to_do}
+
+-- ---- faults are never fewer
+
+-- a commit tells of no fewer
+pub flush_more : (force : Bool) (old new : Run) → FlushedBy force old new → faults_in old.journal ≤ faults_in new.journal
+flush_more force old new by =
+    let more = flushed_more force by.commits old in
+    let same = ap (λ (r : Run). faults_in r.journal) by.is in
+    omega (arith, more, same)
+
+-- nor does a round
+pub round_more : (script : Script) (hosts : List (List ℕ)) (old new : Run) → RoundBy script hosts old new → faults_in old.journal ≤ faults_in new.journal
+round_more script hosts old new by =
+    let t = tried_first script (length script.actors) old in
+    let u = loaded script.start by.service.gives t in
+    let first = first_faults script (length script.actors) old in
+    let second = loaded_more script.start by.service.gives t in
+    let third = flushed_more false by.service.commits u in
+    let same = ap (λ (r : Run). faults_in r.journal) by.is in
+    omega (arith, first, second, third, same)
+
+-- counts that rose with the faults to here, and from here on, rose with them
+pub counts_then : (old mid new : LockedJar) (before between now : ℕ) (starved starved' starved'' : Bool) → CountsFaults old mid before between starved starved'
+    → CountsFaults mid new between now starved' starved'' → CountsFaults old new before now starved starved''
+counts_then old mid new before between now starved starved' starved'' h k = λ first was. k first (h first was)
+
+-- the players of a jar play over one that has the same
+pub playing_at : (script : Script) (stored stored' : Stored) (callers callers' limit limit' : ℕ) (table table' : TableId) (p : PlayersStanding)
+    → stored' ≡ stored → callers' ≡ callers → limit' ≡ limit → table' ≡ table
+    → ArePlaying script stored' callers' limit' table' p → ArePlaying script stored callers limit table p
+playing_at script stored stored' callers callers' limit limit' table table' p same many most cells playing =
+    subst (λ s. ArePlaying script s callers limit table p) same
+    (subst (λ n. ArePlaying script stored' n limit table p) many
+    (subst (λ n. ArePlaying script stored' callers' n table p) most
+    (subst (λ t. ArePlaying script stored' callers' limit' t p) cells playing)))
 
 -- ---- whatever the keeper is
 
--- so far the rounds go on: no round before the last left no step
+-- so far the rounds go on: no round before the last left no turn
 pub record Going (script : Script) (hosts : List (List ℕ)) (r : Run) : Type 0 where
   pub last : Service
   pub earlier : List Service
@@ -52,30 +89,23 @@ going-ends script hosts r end going done by = record {
   first = going.first;
 }
 
-pub rounds_keep : (script : Script) (hosts : List (List ℕ)) (services : List Service) → IsAdmitted script → IsBuilt script
+pub rounds_keep : (script : Script) (hosts : List (List ℕ)) (services : List Service) → IsAdmitted script
     → IsStrictlySortedBy text_cmp (stored_keys (rules_of script hosts)) → Keeps script (rounds script hosts services)
-rounds_keep script hosts [] admitted built rises = begin_keeps script (stored_keys (rules_of script hosts)) rises
-rounds_keep script hosts (service ∷ earlier) admitted built rises =
-    (round_goes script service (rounds script hosts earlier) admitted built (rounds_keep script hosts earlier admitted built rises)).keeps
+rounds_keep script hosts [] admitted rises = begin_keeps script (stored_keys (rules_of script hosts)) rises
+rounds_keep script hosts (service ∷ earlier) admitted rises =
+    (round_goes script service (rounds script hosts earlier) admitted (rounds_keep script hosts earlier admitted rises)).keeps
 
-pub going-keeps : (script : Script) (hosts : List (List ℕ)) (r : Run) → IsAdmitted script → IsBuilt script → IsStrictlySortedBy text_cmp (stored_keys (rules_of script hosts))
+pub going-keeps : (script : Script) (hosts : List (List ℕ)) (r : Run) → IsAdmitted script → IsStrictlySortedBy text_cmp (stored_keys (rules_of script hosts))
     → Going script hosts r → Keeps script r
-going-keeps script hosts r admitted built rises going =
-    subst (Keeps script) (sym going.is) (rounds_keep script hosts (going.last ∷ going.earlier) admitted built rises)
+going-keeps script hosts r admitted rises going =
+    subst (Keeps script) (sym going.is) (rounds_keep script hosts (going.last ∷ going.earlier) admitted rises)
 
-pub going-nearer : (script : Script) (hosts : List (List ℕ)) (r next : Run) → IsAdmitted script → IsBuilt script → Keeps script r → is_done script r ≡ false
+pub going-nearer : (script : Script) (hosts : List (List ℕ)) (r next : Run) → IsAdmitted script → Keeps script r → is_done script r ≡ false
     → RoundBy script hosts r next → to_do script next < to_do script r
-going-nearer script hosts r next admitted built keeps not_yet by =
-    let nearer = (round_goes script by.service r admitted built keeps).nearer not_yet in
+going-nearer script hosts r next admitted keeps not_yet by =
+    let nearer = (round_goes script by.service r admitted keeps).nearer not_yet in
     let same = ap (to_do script) by.is in
     omega (arith, nearer, same)
-
-pub going-never_more : (script : Script) (hosts : List (List ℕ)) (r next : Run) → IsAdmitted script → IsBuilt script → Keeps script r
-    → RoundBy script hosts r next → to_do script next ≤ to_do script r
-going-never_more script hosts r next admitted built keeps by =
-    let less = (round_goes script by.service r admitted built keeps).never_more in
-    let same = ap (to_do script) by.is in
-    omega (arith, less, same)
 
 -- ---- over a keeper that holds rows and never fails
 
@@ -131,30 +161,20 @@ round_of script hosts old t u new tries load flush = record {
       ∙ ap (λ m. flushed false flush.commits (loaded script.start load.gives m)) tries);
 }
 
--- ---- room
-
--- the most entries of a run: sixty-eight a round at most, and no more rounds than there is to do at the begin, and one
-abbrev pub most_entries : Script → List (List ℕ) → ℕ
-most_entries script hosts = 68 * (to_do script (rounds script hosts []) + 1)
-
-abbrev pub HasRoom : Script → List (List ℕ) → Run → Type 0
-HasRoom script hosts r = r.state.entries + 68 * to_do script r ≤ most_entries script hosts
-
-pub room-first : (script : Script) (hosts : List (List ℕ)) (r : Run) → IsAdmitted script → IsBuilt script → IsStrictlySortedBy text_cmp (stored_keys (rules_of script hosts))
-    → RoundBy script hosts (rounds script hosts []) r → r.state.entries ≤ (rounds script hosts []).state.entries + MOST_ACTORS + 4 → HasRoom script hosts r
-room-first script hosts r admitted built rises by entries =
-    let less = going-never_more script hosts (rounds script hosts []) r admitted built (rounds_keep script hosts [] admitted built rises) by in
-    omega (arith, less, entries)
-
-pub room-more : (script : Script) (hosts : List (List ℕ)) (r next : Run) → to_do script next < to_do script r → HasRoom script hosts r
-    → next.state.entries ≤ r.state.entries + MOST_ACTORS + 4 → HasRoom script hosts next
-room-more script hosts r next nearer room entries = omega (arith, nearer, room, entries)
-
-pub room-is : (script : Script) (hosts : List (List ℕ)) (r : Run) → IsAdmitted script → length hosts < MOST_HOSTS → HasRoom script hosts r → r.state.entries < 2 ^ 60
-room-is script hosts r admitted few room =
-    let first = begin_to_do script (stored_keys (rules_of script hosts)) admitted in
-    let keys = few_keys script hosts in
-    omega (arith, first, keys, few, room)
+-- a round of its parts over a keeper that holds rows
+pub round_over_of : (script : Script) (hosts : List (List ℕ)) (tells : List Row → Type 0) (held : List Row) (old t u new : Run)
+    → t ≡ tried_first script (length script.actors) old → u ≡ loaded script.start (gives_of (rules_of script hosts) held) t
+    → new ≡ flushed false true u → tells (held_where (is_due false u) u held) → RoundOver script hosts tells held old new
+round_over_of script hosts tells held old t u new tries load flush told =
+    let there : u ≡ loaded script.start (gives_of (rules_of script hosts) held) (tried_first script (length script.actors) old) =
+    load ∙ ap (loaded script.start (gives_of (rules_of script hosts) held)) tries in
+    record {
+      later = held_where (is_due false u) u held;
+      told = told;
+      is =
+          ap (λ (r : Run). record { run = r; held = held_where (is_due false u) u held }) flush
+          ∙ ap (λ (r : Run). flushed_over false (record { run = r; held = held })) there;
+    }
 
 -- ---- the same, over hosts that are those of rows
 

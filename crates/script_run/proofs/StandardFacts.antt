@@ -1,10 +1,11 @@
--- The limits of an input and of hosts, the statuses and the line of each refusal, as docs/DEFINITIONS.md has them; what isn't built,
--- what steps ask, calls, loads, commits and rounds at small values; and what the causes of answers keep out.
+-- The limit of an input, the statuses and the line of each refusal, as docs/DEFINITIONS.md has them; what steps of fetches ask,
+-- calls, loads, commits and rounds at small values; and what the causes of answers keep out.
 use Rattle.std.proofs.Common.{◌≡◌, ℕ, zero, suc, List, [], ◌∷◌, length, map, take, inl, inr, true, false, codes, None, Some, refl, ap, arith}
 use Rattle.std.specs.Fmt.{digits}
 use Rattle.std.proofs.lemmas.List.{length-take}
 use Rattle.serde_json.proofs.OnLiterals.{serde_json_on_literals}
 use Rattle.jar_edge.specs.Told.{SourceTold, SinkTold}
+use Rattle.jar_types.specs.declared.ask_cause.AskCause.TheVariants.{Cold}
 use Rattle.jar_types.specs.declared.entry.Entry.{Entry}
 use Rattle.jar_types.specs.declared.entry.Entry.TheVariants.{Call, Jar}
 use Rattle.jar_types.specs.declared.cookie.CookieId.{CookieId}
@@ -18,15 +19,14 @@ use Rattle.jar_types.specs.declared.row.RowChange.{RowChange}
 use Rattle.jar_types.specs.declared.row.RowChange.TheVariants.{Drop}
 use Rattle.jar_types.specs.RowChanges.{change_id}
 use Rattle.jar_types.specs.States.{opening}
-use Rattle.run_report.specs.declared.item.Item.TheVariants.{At, Refused}
+use Rattle.run_report.specs.declared.item.Item.TheVariants.{At, Asked, Reused, Refused}
 use Rattle.run_report.specs.declared.refusal_name.RefusalName.TheVariants.{Spent, Control}
 use Rattle.script_run.specs.declared.ask.Ask.TheVariants as ask
 use Rattle.script_run.specs.declared.status.TheConstants.{DONE, OTHER_WORDS, REFUSED, READ_FAULT, WRITE_FAULT, STORE_FAULT, NO_MEMORY}
-use Rattle.script_run.specs.declared.rounds.TheConstants.{MOST_HOSTS}
 use Rattle.script_run.specs.declared.tool.Failure.TheVariants.{ReadFault, NoMemory}
 use Rattle.script_run.specs.declared.tool.TheConstants.{MOST_INPUT}
+use Rattle.script_run.specs.declared.purpose.Purpose.TheVariants as purpose
 use Rattle.script_run.specs.Ask.{ask_at, request_of, scope_of}
-use Rattle.script_run.specs.Built.{not_built, unbuilt}
 use Rattle.script_run.specs.Legal.{call_places, named_places}
 use Rattle.script_run.specs.Refusals.{at_root, refusal_line, store_fault_line}
 use Rattle.script_run.specs.Answers.{status_of}
@@ -37,20 +37,15 @@ use Rattle.script_run.specs.Words.{runs_serial, store_file}
 use Rattle.script_text.specs.declared.actor.Actor.{Actor}
 use Rattle.script_text.specs.declared.refused.Refusal.TheVariants as name
 use Rattle.script_text.specs.declared.script.Script.{Script}
-use Rattle.script_text.specs.declared.spot.Spot.TheVariants.{OfActor, OfStep}
 use Rattle.script_text.specs.declared.step.Step.{Step}
 use Rattle.script_text.specs.declared.step.What.{What}
-use Rattle.script_text.specs.declared.step.What.TheVariants.{All, Clear, Delete, Hear, Post, Read}
+use Rattle.script_text.specs.declared.step.What.TheVariants.{All, Clear, Delete, Hear, Post}
 use Rattle.site_match.specs.declared.fetch.FetchAsk.{FetchAsk}
-use Rattle.site_match.specs.declared.place.Place.{Place}
 
 -- ---- the limit of an input, and the statuses
 
 most_input : MOST_INPUT ≡ 16777216
 most_input = refl
-
-most_hosts : MOST_HOSTS ≡ 1099511627776
-most_hosts = refl
 
 statuses : (DONE ≡ 0) × (OTHER_WORDS ≡ 2) × (REFUSED ≡ 3) × (READ_FAULT ≡ 4) × (WRITE_FAULT ≡ 5) × (STORE_FAULT ≡ 6) × (NO_MEMORY ≡ 7)
 statuses = (refl, refl, refl, refl, refl, refl, refl)
@@ -120,13 +115,12 @@ refused_lines : (refusal_line (at_root name.TooLarge) ≡ codes "{\"path\":\"\",
     × (refusal_line (at_root name.BadPlace) ≡ codes "{\"path\":\"\",\"refused\":\"BadPlace\"}\n")
     × (refusal_line (at_root name.Deadlock) ≡ codes "{\"path\":\"\",\"refused\":\"Deadlock\"}\n")
     × (store_fault_line ≡ codes "{\"path\":\"\",\"refused\":\"StoreFault\"}\n")
-    × (refusal_line (not_built (OfStep 3 12)) ≡ codes "{\"path\":\"/actors/3/steps/12\",\"refused\":\"NotBuilt\"}\n")
 unfolding digits serde_json_on_literals
-refused_lines = (refl, refl, refl, refl, refl, refl, refl, refl, refl, refl)
+refused_lines = (refl, refl, refl, refl, refl, refl, refl, refl, refl)
 
--- ---- what isn't built
+-- ---- scripts
 
--- steps at the moment 0, a fetch that does these, and a renderer that reads
+-- steps at the moment 0, and a fetch that does these
 abbrev at_0 : List What → List Step
 at_0 [] = []
 at_0 (what ∷ whats) = record { now = 0; what = what } ∷ at_0 whats
@@ -134,29 +128,19 @@ at_0 (what ∷ whats) = record { now = 0; what = what } ∷ at_0 whats
 abbrev doing : List What → Actor
 doing whats = record { view = None; steps = at_0 whats }
 
-abbrev renders : Place → Actor
-renders place = record { view = Some (place, None); steps = at_0 (Read None ∷ []) }
-
 -- a script of these actors that leaves five entries to its callers and starts at 9
 abbrev script_of : List Actor → Script
 script_of actors = record { suffixes = []; start = 9; limit = 5; actors = actors }
 
--- the first renderer is named, and steps on all cookies are built
-first_unbuilt : (place : Place)
-    → (unbuilt (script_of (doing (Post ∷ All ∷ Clear ∷ []) ∷ renders place ∷ renders place ∷ [])) ≡ Some (OfActor 1))
-    × (unbuilt (script_of (renders place ∷ doing (Clear ∷ []) ∷ [])) ≡ Some (OfActor 0))
-    × (unbuilt (script_of (doing (Post ∷ Hear 0 1 ∷ All ∷ Clear ∷ []) ∷ [])) ≡ None)
-first_unbuilt place = (refl, refl, refl)
-
 -- ---- what steps ask
 
 -- a delete is about the host as it stands, under the key of the host without its dot
-delete_asks : ask_at [] 0 (Delete (codes ".www.foo.com") (codes "a") (codes "/p"))
+delete_asks : ask_at [] None 0 (Delete (codes ".www.foo.com") (codes "a") (codes "/p"))
     ≡ Some (ask.Op (op.Delete (codes "foo.com")
     (record { host = codes ".www.foo.com"; name = codes "a"; path = codes "/p" })))
 delete_asks = refl
 
-all_and_clear : (ask_at [] 0 All ≡ Some (ask.Op op.All)) × (ask_at [] 0 Clear ≡ Some (ask.Op op.Clear))
+all_and_clear : (ask_at [] None 0 All ≡ Some (ask.Op op.All)) × (ask_at [] None 0 Clear ≡ Some (ask.Op op.Clear))
 all_and_clear = (refl, refl)
 
 scopes : (fetch : FetchAsk) → (scope_of None (Some (codes "n")) ≡ scope.All)
@@ -172,7 +156,7 @@ journal = Call 0 5 op.Post (Posted 1) ∷ Jar (Whole 9) ∷ Call 1 5 op.Post (Po
 
 places : (call_places 0 1 journal ≡ 1 ∷ 4 ∷ []) × (call_places 1 1 journal ≡ 3 ∷ [])
     × (call_places 2 1 journal ≡ [])
-    × (named_places (At 1 ∷ Refused Spent ∷ Refused Control ∷ At 4 ∷ []) ≡ 1 ∷ 4 ∷ [])
+    × (named_places (At 1 ∷ Refused Spent ∷ Asked 3 Cold ∷ Reused (codes "a=1") ∷ At 4 ∷ []) ≡ 1 ∷ 3 ∷ 4 ∷ [])
 places = (refl, refl, refl, refl)
 
 -- ---- calls and loads
@@ -186,21 +170,21 @@ abbrev one : Script
 one = script_of (doing [] ∷ [])
 
 -- of five entries the fifth is made, and the sixth is spent: an item without an entry
-fifth : ((asked one 0 (run_at 4) 3 (Some (ask.Op op.Post))).items ≡ (At 1 ∷ []) ∷ [])
-    × ((asked one 0 (run_at 4) 3 (Some (ask.Op op.Post))).journal ≡ Call 0 3 op.Post (Posted 1) ∷ [])
-    × ((asked one 0 (run_at 4) 3 (Some (ask.Op op.Post))).state.calls ≡ 5)
+fifth : ((asked one 0 (run_at 4) 3 purpose.Call (Some (ask.Op op.Post))).items ≡ (At 1 ∷ []) ∷ [])
+    × ((asked one 0 (run_at 4) 3 purpose.Call (Some (ask.Op op.Post))).journal ≡ Call 0 3 op.Post (Posted 1) ∷ [])
+    × ((asked one 0 (run_at 4) 3 purpose.Call (Some (ask.Op op.Post))).state.calls ≡ 5)
 fifth = (refl, refl, refl)
 
-sixth : asked one 0 (run_at 5) 3 (Some (ask.Op op.Post)) ≡ record (run_at 5) { items = (Refused Spent ∷ []) ∷ [] }
+sixth : asked one 0 (run_at 5) 3 purpose.Call (Some (ask.Op op.Post)) ≡ record (run_at 5) { items = (Refused Spent ∷ []) ∷ [] }
 sixth = refl
 
 -- a hear that waits has neither item nor entry, but one that is spent has an item
-waits : (asked one 0 (run_at 4) 3 (Some (ask.Op (op.Hear 0 1))) ≡ run_at 4)
-    × ((asked one 0 (run_at 5) 3 (Some (ask.Op (op.Hear 0 1)))).items ≡ (Refused Spent ∷ []) ∷ [])
+waits : (asked one 0 (run_at 4) 3 purpose.Call (Some (ask.Op (op.Hear 0 1))) ≡ run_at 4)
+    × ((asked one 0 (run_at 5) 3 purpose.Call (Some (ask.Op (op.Hear 0 1)))).items ≡ (Refused Spent ∷ []) ∷ [])
 waits = (refl, refl)
 
 -- a refused step has an item and no entry
-refused_step : asked one 0 (run_at 4) 3 (Some (ask.Refused Control))
+refused_step : asked one 0 (run_at 4) 3 purpose.Call (Some (ask.Refused Control))
     ≡ record (run_at 4) { items = (Refused Control ∷ []) ∷ [] }
 refused_step = refl
 
@@ -212,7 +196,7 @@ abbrev unloaded : Run
 unloaded = begin_of 1 (codes "a" ∷ codes "b" ∷ [])
 
 abbrev asks_for_b : Run → Run
-asks_for_b r = asked one 0 r 3 (Some (ask.Op (op.Get get)))
+asks_for_b r = asked one 0 r 3 purpose.Call (Some (ask.Op (op.Get get)))
 
 wants_once : ((asks_for_b unloaded).journal ≡ Jar (Want (codes "b")) ∷ []) × ((asks_for_b unloaded).items ≡ [] ∷ [])
     × (asks_for_b (asks_for_b unloaded) ≡ asks_for_b unloaded)

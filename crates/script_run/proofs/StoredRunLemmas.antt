@@ -21,11 +21,11 @@ use Rattle.run_report.specs.declared.item.Item.{Item}
 use Rattle.script_run.specs.Rounds.{EndsOver, IsHistoryOver, Over, committed_where, is_due, rounds, rounds_over}
 use Rattle.script_run.specs.Runs.{Run}
 use Rattle.script_run.specs.StoredRuns.{IsTimed, StoredRunsAreEager, StoredRunsAreHonest, StoredRunsAreKept}
-use Rattle.script_run.proofs.AskOwnLemmas.{IsStored, stored_closed}
 use Rattle.script_run.proofs.ClosedLemmas.{closed_flush, closed_rounds}
 use Rattle.script_run.proofs.HeldRunLemmas.{IsBatched, end_is_over, rounds_are_over, rules_over}
 use Rattle.script_run.proofs.LegalLemmas.{serial_legal}
 use Rattle.script_run.proofs.OverLemmas.{runs_over_rows}
+use Rattle.script_run.proofs.StorableLemmas.{IsStored, stored_closed}
 
 -- ---- nothing is pending at the end
 

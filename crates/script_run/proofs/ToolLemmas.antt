@@ -3,9 +3,9 @@ use Rattle.std.proofs.Common.{◌≡◌, ◌⊎◌, ℕ, zero, suc, List, inl, i
 use Rattle.jar_edge.specs.Told.{SourceTold, SinkTold}
 use Rattle.jar_types.specs.declared.entry.Entry.{Entry}
 use Rattle.script_text.specs.declared.script.Script.{Script}
+use Rattle.shared_jar.specs.Faults.{faults_in}
 use Rattle.script_run.specs.declared.status.TheConstants.{DONE, REFUSED, READ_FAULT, STORE_FAULT}
-use Rattle.script_run.specs.Answers.{KeeperTold, IsDue, IsDueForScript, IsRun, status_where}
-use Rattle.script_run.specs.Faults.{faults_in}
+use Rattle.script_run.specs.Answers.{KeeperTold, IsDue, IsRun, status_where}
 use Rattle.script_run.specs.Tool.{IsDueFor, Writes}
 
 -- the status is one of an answer
@@ -24,14 +24,9 @@ answered_run : (old new : KeeperTold) (script : Script) (journal : List Entry) (
 answered_run old new script journal status text (inl report) = answered_report status (faults_in journal) report.status_is
 answered_run old new script journal status text (inr unserved) = inr (inl unserved.line.status_is)
 
-answered_script : (old new : KeeperTold) (script : Script) (journal : List Entry) (status : ℕ) (text : List ℕ)
-    → IsDueForScript old new script journal status text → IsAnswered status
-answered_script old new script journal status text (inl run) = answered_run old new script journal status text run.1
-answered_script old new script journal status text (inr unbuilt) = inr (inr unbuilt.2.refuses.status_is)
-
 answered_bytes : (old new : KeeperTold) (bytes : List ℕ) (journal : List Entry) (status : ℕ) (text : List ℕ)
     → IsDue old new bytes journal status text → IsAnswered status
-answered_bytes old new bytes journal status text (inl read) = answered_script old new read.0 journal status text read.2
+answered_bytes old new bytes journal status text (inl read) = answered_run old new read.0 journal status text read.2
 answered_bytes old new bytes journal status text (inr refused) = inr (inr refused.2.refuses.status_is)
 
 pub answered : (before then : KeeperTold) (old new : SourceTold) (journal : List Entry) (status : ℕ) (text : List ℕ)

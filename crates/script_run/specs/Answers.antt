@@ -1,6 +1,6 @@
 -- What is due for an input over a keeper of rows: a status and a text, and what becomes of the keeper. This jar's own rule:
 -- docs/DEFINITIONS.md.
-use Rattle.std.specs.Prelude.{◌≡◌, ◌⊎◌, ℕ, zero, suc, List, [], Some, Ok, Err}
+use Rattle.std.specs.Prelude.{◌≡◌, ◌⊎◌, ℕ, zero, suc, List, [], Ok, Err}
 use Rattle.std.specs.List.Sorted.{IsStrictlySortedBy}
 use Rattle.jar_edge.specs.Faults.{Rose}
 use Rattle.jar_types.specs.declared.entry.Entry.{Entry}
@@ -12,11 +12,9 @@ use Rattle.script_text.specs.declared.refused.Refusal.TheVariants.{TooLarge}
 use Rattle.script_text.specs.declared.refused.Refused.{Refused}
 use Rattle.script_text.specs.declared.refused.ScriptRefusal.TheVariants as refusal
 use Rattle.script_text.specs.declared.script.Script.{Script}
-use Rattle.script_text.specs.declared.spot.Spot.{Spot}
 use Rattle.script_text.specs.Scripts.{ReadsScript}
 use Rattle.script_run.specs.declared.status.TheConstants.{DONE, REFUSED, STORE_FAULT}
-use Rattle.script_run.specs.Built.{unbuilt, not_built, IsBuilt}
-use Rattle.script_run.specs.Faults.{RoseTimes, faults_in}
+use Rattle.shared_jar.specs.Faults.{RoseTimes, faults_in}
 use Rattle.script_run.specs.Refusals.{at_root, refusal_line, store_fault_line}
 use Rattle.script_run.specs.Rounds.{IsHistory}
 use Rattle.script_run.specs.Services.{RanOver}
@@ -61,7 +59,7 @@ pub record IsUnserved (old new : KeeperTold) (journal : List Entry) (status : �
   pub line : IsStoreFault status text
   pub count : Rose old.faults new.faults
 
--- what is due for a script of which all is built
+-- what is due for a script
 abbrev pub IsRun : KeeperTold → KeeperTold → Script → List Entry → ℕ → List ℕ → Type 0
 IsRun old new script journal status text = IsReport old new script journal status text ⊎ IsUnserved old new journal status text
 
@@ -86,14 +84,8 @@ pub record RefusesUncalled (old new : KeeperTold) (refused : Refused) (journal :
   pub uncalled : Uncalled old new
   pub refuses : IsRefusal refused journal status text
 
--- what is due for a script: its report, or the line of the first of it that isn't built
-abbrev pub IsDueForScript : KeeperTold → KeeperTold → Script → List Entry → ℕ → List ℕ → Type 0
-IsDueForScript old new script journal status text =
-    (IsBuilt script × IsRun old new script journal status text)
-    ⊎ ((spot : Spot) × (unbuilt script ≡ Some spot) × RefusesUncalled old new (not_built spot) journal status text)
-
 -- what is due for bytes: what is for the script that they are, or the line of their refusal
 abbrev pub IsDue : KeeperTold → KeeperTold → List ℕ → List Entry → ℕ → List ℕ → Type 0
 IsDue old new bytes journal status text =
-    ((script : Script) × ReadsScript bytes (Ok script) × IsDueForScript old new script journal status text)
+    ((script : Script) × ReadsScript bytes (Ok script) × IsRun old new script journal status text)
     ⊎ ((refused : Refused) × ReadsScript bytes (Err (refusal.Refused refused)) × RefusesUncalled old new refused journal status text)

@@ -1,9 +1,9 @@
+pub mod Turns
 pub mod Ask
-pub mod Built
+pub mod Reads
 pub mod Runs
 pub mod Rounds
-pub mod Kept
-pub mod Faults
+pub mod Players
 pub mod Services
 pub mod Legal
 pub mod StoredRuns

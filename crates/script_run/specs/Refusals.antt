@@ -17,7 +17,6 @@ refusal_word name.BadMoment = codes "BadMoment"
 refusal_word name.BadSuffixes = codes "BadSuffixes"
 refusal_word name.BadPlace = codes "BadPlace"
 refusal_word name.Deadlock = codes "Deadlock"
-refusal_word name.NotBuilt = codes "NotBuilt"
 
 -- a refusal of the whole text
 abbrev pub at_root : Refusal → Refused

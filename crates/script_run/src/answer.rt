@@ -5,18 +5,16 @@ ghost use Rattle.std.specs.List.{list_any};
 ghost use Rattle.run_report.specs.Reports.{report_text};
 ghost use Rattle.script_text.specs.Admitted.{IsAdmitted};
 ghost use Rattle.script_run.specs.Answers as spec;
-ghost use Rattle.script_run.specs.Built.{IsBuilt, not_built as unbuilt_refusal};
-ghost use Rattle.script_run.specs.Faults as faults;
+ghost use Rattle.shared_jar.specs.Faults as faults;
 ghost use Rattle.script_run.specs.declared.rounds.RunRefusal.TheVariants.{StoreFault};
 
-use crate::built::unbuilt;
 use crate::refusal_line::{refusal_line, store_fault_line};
 use crate::rounds::{Ran, RunFail, RunRefusal, serial};
 use crate::status::{DONE, REFUSED, STORE_FAULT};
 use jar_keeper::Keeper;
 use jar_types::{Entry, Journal, NoMemory, Own, Text};
 use run_report::print;
-use script_text::{Refusal, Refused, Script, ScriptRefusal, Spot};
+use script_text::{Refusal, Refused, Script, ScriptRefusal};
 use std::alloc::Global;
 
 /// An answer to an input: the status that is due and the text, the keeper, and the journal of what
@@ -51,9 +49,8 @@ impl<K: Keeper + Drop> NoAnswer<K> {
 /// The answer to an input that was read whole, over a keeper of rows.
 ///
 /// A script has status [`DONE`] and its report, or [`STORE_FAULT`] where the keeper failed, and
-/// another input [`REFUSED`] and the line of its refusal; a script of which something isn't built
-/// yet is refused last of all. Only want of memory refuses. This jar's own rule:
-/// docs/DEFINITIONS.md.
+/// another input [`REFUSED`] and the line of its refusal. Only want of memory refuses. This jar's own
+/// rule: docs/DEFINITIONS.md.
 pub fn answer_of<K: Keeper + Drop>(
     alloc: Global,
     bytes: &[u8],
@@ -64,7 +61,7 @@ pub fn answer_of<K: Keeper + Drop>(
         bytes.now a.journal.list a.status a.text.items) }
 {
     match Script::read(alloc, bytes) {
-        Ok(script) => script_answer(alloc, &script, keeper),
+        Ok(script) => run_answer(alloc, &script, keeper),
         Err(ScriptRefusal::Refused(refused)) => refusal_answer(alloc, &refused, keeper),
         Err(ScriptRefusal::NoMemory) => Err(NoAnswer::unrun(alloc, keeper)),
     }
@@ -86,43 +83,12 @@ pub fn too_large<K: Keeper + Drop>(alloc: Global, keeper: K) -> Result<Answer<K>
 }
 
 /// The answer to a script.
-fn script_answer<K: Keeper + Drop>(
-    alloc: Global,
-    script: &Script,
-    keeper: K,
-) -> Result<Answer<K>, NoAnswer<K>>
-    requires { IsAdmitted script.now }
-    ensures { IfOk result (λ a. spec.IsDueForScript (spec.told_of (K.tells keeper) (K.undisturbed keeper) (K.faults keeper))
-        (spec.told_of (K.tells a.keeper) (K.undisturbed a.keeper) (K.faults a.keeper))
-        script.entry.now a.journal.list a.status a.text.items) }
-{
-    let Some(spot) = unbuilt(script) else {
-        return run_answer(alloc, script, keeper);
-    };
-    match not_built(alloc, spot) {
-        Ok(refused) => refusal_answer(alloc, &refused, keeper),
-        Err(NoMemory) => Err(NoAnswer::unrun(alloc, keeper)),
-    }
-}
-
-/// The refusal of what isn't built.
-fn not_built(alloc: Global, spot: Spot) -> Result<Refused, NoMemory>
-    ensures { IfOk result (λ refused. refused ≡ unbuilt_refusal spot) }
-{
-    Ok(Refused {
-        name: Refusal::NotBuilt,
-        path: spot.path_text(alloc)?,
-    })
-}
-
-/// The answer to a script of which all is built.
 fn run_answer<K: Keeper + Drop>(
     alloc: Global,
     script: &Script,
     keeper: K,
 ) -> Result<Answer<K>, NoAnswer<K>>
-    requires admitted { IsAdmitted script.now }
-    requires built { IsBuilt script.now }
+    requires { IsAdmitted script.now }
     ensures { IfOk result (λ a. spec.IsRun (spec.told_of (K.tells keeper) (K.undisturbed keeper) (K.faults keeper))
         (spec.told_of (K.tells a.keeper) (K.undisturbed a.keeper) (K.faults a.keeper))
         script.entry.now a.journal.list a.status a.text.items) }

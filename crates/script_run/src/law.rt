@@ -1,7 +1,7 @@
 //! Laws of the definitions.
 
 ghost use Rattle.script_run.specs.Listening.{ListenersAreToldFirst, ListenersAreToldOn};
-ghost use Rattle.script_run.specs.Legal.{ItemsFitTheSteps, ItemsNameTheCalls, RunsAreOne, RunsOverRows, SerialJournalsAreLegal};
+ghost use Rattle.script_run.specs.Legal.{ItemsFitTheTurns, ItemsNameTheCalls, RunsAreOne, RunsOverRows, SerialJournalsAreLegal};
 
 /// The journal of a script over hosts is legal by its suffix rules: each reply in it is that of the jar of one
 /// thread, and each entry may stand where it stands.
@@ -14,10 +14,11 @@ pub fn items_name_the_calls()
     ensures { ItemsNameTheCalls }
 {}
 
-/// Each actor has one item a step: a step that the definitions refuse has their name, and each other
-/// one names its entry, or was refused where callers had as many entries as they may.
-pub fn items_fit_the_steps()
-    ensures { ItemsFitTheSteps }
+/// Each actor has one item a turn: a turn that the definitions refuse has their name, a read names its
+/// entry and the cause or is a text that was used again, and each other one names its entry; or it was
+/// refused where callers had as many entries as they may.
+pub fn items_fit_the_turns()
+    ensures { ItemsFitTheTurns }
 {}
 
 /// Over the rows that a keeper holds, which never fails, a script ends in one way alone.

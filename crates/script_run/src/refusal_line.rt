@@ -49,6 +49,5 @@ fn refusal_word(name: Refusal) -> &'static str
         Refusal::BadSuffixes => "BadSuffixes",
         Refusal::BadPlace => "BadPlace",
         Refusal::Deadlock => "Deadlock",
-        Refusal::NotBuilt => "NotBuilt",
     }
 }

@@ -6,6 +6,7 @@ mod commits;
 mod faults;
 mod loads;
 mod refusals;
+mod renderers;
 mod reports;
 mod rows;
 mod runs;

@@ -16,9 +16,9 @@ use Rattle.script_text.specs.Scripts.{IsRefusedAs}
 use Rattle.script_text.specs.Walk.{IsPlace, IsNoPlace, WalkedUrl, actor_urls, script_urls, IsSomePlace, IsFirstBad, bad_place}
 use Rattle.script_text.proofs.WalkLemmas.{list_places, actor_places}
 
--- a value isn't refused as bytes are, nor for what isn't built
-never : (d : Data) (path : List ℕ) → (IsRefusedAs d name.TooLarge path → ⊥) × (IsRefusedAs d name.NotJson path → ⊥) × (IsRefusedAs d name.NotBuilt path → ⊥)
-never d path = (λ h. h, λ h. h, λ h. h)
+-- a value isn't refused as bytes are
+never : (d : Data) (path : List ℕ) → (IsRefusedAs d name.TooLarge path → ⊥) × (IsRefusedAs d name.NotJson path → ⊥)
+never d path = (λ h. h, λ h. h)
 
 -- a value that isn't of the form is refused as such alone
 other_form : (d : Data) (path other : List ℕ) → IsRefusedAs d name.Shape path

@@ -9,7 +9,7 @@ use Rattle.json_form.specs.Forms.{misfit}
 use Rattle.json_form.specs.declared.setting.Pass.TheVariants.{Shapes, Moments}
 use Rattle.script_text.specs.declared.deadlock.Waiting.{Waiting}
 use Rattle.script_text.specs.declared.refused.Refusal.{Refusal}
-use Rattle.script_text.specs.declared.refused.Refusal.TheVariants.{TooLarge, NotJson, Shape, TooMany, BadMoment, BadSuffixes, BadPlace, Deadlock, NotBuilt}
+use Rattle.script_text.specs.declared.refused.Refusal.TheVariants.{TooLarge, NotJson, Shape, TooMany, BadMoment, BadSuffixes, BadPlace, Deadlock}
 use Rattle.script_text.specs.declared.refused.Refused.{Refused}
 use Rattle.script_text.specs.declared.refused.ScriptRefusal.{ScriptRefusal}
 use Rattle.script_text.specs.declared.refused.ScriptRefusal.TheVariants as refusal
@@ -62,7 +62,6 @@ IsRefusedAs d BadPlace path =
     IsTimely d × ((rules : List SuffixRule) × IsRules (draft_of d).suffixes rules
     × IsFirstBad rules (script_urls (draft_of d).actors) (bad_place path))
 IsRefusedAs d Deadlock path = IsTimely d × IsDeadlockIn d path
-IsRefusedAs d NotBuilt path = ⊥
 
 -- a value is refused so
 abbrev pub IsRefusedIn : Data → Refused → Type 0

@@ -22,7 +22,6 @@ pub use deadlock::Waiting;
 pub use law::waiting_actors_have_ended;
 pub use refused::{Refusal, Refused, ScriptRefusal};
 pub use script::{MOST_LIMIT, Script};
-pub use spot::Spot;
 pub use step::{MOST_STEPS, Step, Steps, What};
 
 #[cfg(test)]

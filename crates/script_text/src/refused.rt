@@ -21,8 +21,6 @@ pub enum Refusal {
     BadPlace,
     /// Its actors wait for one another.
     Deadlock,
-    /// What it asks for isn't built yet.
-    NotBuilt,
 }
 
 /// A refusal of an input: its name, and the path in the input, a JSON Pointer.

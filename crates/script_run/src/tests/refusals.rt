@@ -6,7 +6,7 @@ use std::test::Fail;
 
 /// Inputs, and the lines of their refusals. What isn't built is told last of all: the last two have
 /// an earlier cause.
-const REFUSED: [(&str, &str); 13] = [
+const REFUSED: [(&str, &str); 11] = [
     ("{\"actors\":[", "{\"path\":\"\",\"refused\":\"NotJson\"}"),
     ("[]", "{\"path\":\"\",\"refused\":\"Shape\"}"),
     (
@@ -36,14 +36,6 @@ const REFUSED: [(&str, &str); 13] = [
     (
         "{\"actors\":[{\"kind\":\"fetch\",\"steps\":[{\"actor\":1,\"n\":1,\"now\":0,\"op\":\"hear\"},{\"now\":0,\"op\":\"post\"}]},{\"kind\":\"fetch\",\"steps\":[{\"actor\":0,\"n\":1,\"now\":0,\"op\":\"hear\"},{\"now\":0,\"op\":\"post\"}]}]}",
         "{\"path\":\"/actors/0/steps/0\",\"refused\":\"Deadlock\"}",
-    ),
-    (
-        "{\"actors\":[{\"kind\":\"fetch\",\"steps\":[{\"now\":0,\"op\":\"post\"},{\"now\":0,\"op\":\"all\"}]},{\"document\":\"https://h.test/\",\"kind\":\"renderer\",\"site\":null,\"steps\":[]}]}",
-        "{\"path\":\"/actors/1\",\"refused\":\"NotBuilt\"}",
-    ),
-    (
-        "{\"actors\":[{\"kind\":\"fetch\",\"steps\":[]},{\"document\":\"https://h.test/\",\"kind\":\"renderer\",\"site\":null,\"steps\":[]},{\"kind\":\"fetch\",\"steps\":[{\"now\":0,\"op\":\"clear\"}]}]}",
-        "{\"path\":\"/actors/1\",\"refused\":\"NotBuilt\"}",
     ),
     (
         "{\"actors\":[{\"kind\":\"fetch\",\"steps\":[{\"now\":0,\"op\":\"all\"}]},{\"kind\":\"fetch\",\"steps\":[{\"actor\":2,\"n\":1,\"now\":0,\"op\":\"hear\"},{\"now\":0,\"op\":\"post\"}]},{\"kind\":\"fetch\",\"steps\":[{\"actor\":1,\"n\":1,\"now\":0,\"op\":\"hear\"},{\"now\":0,\"op\":\"post\"}]}]}",

@@ -1,7 +1,6 @@
 //! The public call: a report as a value.
 
 use super::no_rows;
-use crate::built::unbuilt;
 use crate::{Report, serial};
 use jar_types::NoMemory;
 use script_text::{Script, ScriptRefusal};
@@ -12,18 +11,13 @@ use std::test::Fail;
 const TWO_ACTORS: &str =
     "{\"actors\":[{\"kind\":\"fetch\",\"steps\":[{\"actor\":1,\"n\":1,\"now\":5,\"op\":\"hear\"},{\"now\":5,\"op\":\"get\",\"url\":\"http://h.test/\"}]},{\"kind\":\"fetch\",\"steps\":[{\"line\":\"a=1\",\"now\":1,\"op\":\"set\",\"url\":\"http://h.test/\"},{\"now\":2,\"op\":\"post\"}]}]}";
 
-/// The report of a script of which all is built; none of another one.
+/// The report of a script; none where it is refused.
 fn report_of(alloc: Global, script: &str) -> Result<Option<Report>, NoMemory> {
     match Script::read(alloc, script.as_bytes()) {
-        Ok(script) => {
-            if unbuilt(&script).is_some() {
-                return Ok(None);
-            }
-            match serial(alloc, &script, no_rows(alloc)) {
-                Ok(ran) => Ok(Some(ran.report)),
-                Err(_) => Err(NoMemory),
-            }
-        }
+        Ok(script) => match serial(alloc, &script, no_rows(alloc)) {
+            Ok(ran) => Ok(Some(ran.report)),
+            Err(_) => Err(NoMemory),
+        },
         Err(ScriptRefusal::Refused(_)) => Ok(None),
         Err(ScriptRefusal::NoMemory) => Err(NoMemory),
     }
