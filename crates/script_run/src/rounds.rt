@@ -168,6 +168,7 @@ fn play<C: JarCore + Drop, K: Keeper + Drop>(
         Err(passes) => Err(failed(jar.finish(passes))),
     }
 }
+
 /// What a jar and its players came to behind the last commit: the report; but none where the vault is
 /// starved.
 fn ended<C: JarCore + Drop, K: Keeper + Drop>(
