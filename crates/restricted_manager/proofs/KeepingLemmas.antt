@@ -19,16 +19,15 @@ answer_is document bound cell reply same is =
     ap (λ (b : Bool). answer_by b bound reply) same ∙ ap (λ (c : Option ℕ). answer_by true c reply) is
 
 -- a manager that is seen so keeps what it found in the reply to a read of an asked place
-pub keeps : (m seen new : ManagerStanding) (url : Option Place) (place : Place) (cell : ℕ) (reply : Reply)
-    (found : Option Kept) (kept : Kept) → m ≡ seen → place ≡ asked_place m.document url
-    → is_same_place place m.document ≡ true → m.cell ≡ Some cell → IsAnswer (answer_in cell reply) found
+pub keeps : (m seen new : ManagerStanding) (url : Option Place) (cell : ℕ) (reply : Reply)
+    (found : Option Kept) (kept : Kept) → m ≡ seen
+    → is_same_place (asked_place m.document url) m.document ≡ true → m.cell ≡ Some cell → IsAnswer (answer_in cell reply) found
     → found ≡ Some kept → new ≡ record seen { kept = Some kept }
     → KeepsAnswer (answer_of seen url reply) seen new
-keeps m seen new url place cell reply found kept view is same bound answer there change =
+keeps m seen new url cell reply found kept view same bound answer there change =
     let P : ManagerStanding → Type 0 = λ s. answer_of s url reply ≡ answer_in cell reply in
-    let Q : Place → Type 0 = λ p. is_same_place p m.document ≡ true in
     let R : Option Kept → Type 0 = λ k. IsAnswer (answer_in cell reply) k in
     let S : Option Answer → Type 0 = λ a. IsAnswer a (Some kept) in
     let so : answer_of seen url reply ≡ answer_in cell reply =
-    subst P view (answer_is _ _ cell reply (subst Q is same) bound) in
+    subst P view (answer_is _ _ cell reply same bound) in
     keeps_it (answer_of seen url reply) kept seen new (subst S (sym so) (subst R there answer)) change

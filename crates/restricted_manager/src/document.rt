@@ -15,8 +15,28 @@ pub fn asked_place<'place>(document: &'place Place, url: Option<&'place Place>) 
     }
 }
 
+/// Whether the place of a step has the document's origin, which it has where the step names none.
+pub fn has_own_origin(document: &Place, url: Option<&Place>) -> bool
+    ensures { result ≡ spec.is_same_origin (spec.asked_place document.now (option_copied url.entry)) document.now }
+{
+    match url {
+        Some(place) => is_same_origin(place, document),
+        None => true,
+    }
+}
+
+/// Whether the place of a step is the document's, which it is where the step names none.
+pub fn is_own_place(document: &Place, url: Option<&Place>) -> bool
+    ensures { result ≡ spec.is_same_place (spec.asked_place document.now (option_copied url.entry)) document.now }
+{
+    match url {
+        Some(place) => is_same_place(place, document),
+        None => true,
+    }
+}
+
 /// Whether two places have one origin: the same scheme, host and port.
-pub fn is_same_origin(first: &Place, second: &Place) -> bool
+fn is_same_origin(first: &Place, second: &Place) -> bool
     ensures { result ≡ spec.is_same_origin first.now second.now }
 {
     is_same_scheme(first.scheme, second.scheme)
@@ -25,7 +45,7 @@ pub fn is_same_origin(first: &Place, second: &Place) -> bool
 }
 
 /// Whether two places are the same, by their scheme, host, port, path and key.
-pub fn is_same_place(first: &Place, second: &Place) -> bool
+fn is_same_place(first: &Place, second: &Place) -> bool
     ensures { result ≡ spec.is_same_place first.now second.now }
 {
     is_same_origin(first, second) && first.path == second.path && first.key == second.key

@@ -4,7 +4,7 @@ ghost use Rattle.std.specs.Prelude.{◌≡◌, IfOk, MatchResult, option_copied}
 ghost use Rattle.version_cells.specs.Listings.{IsCell};
 ghost use Rattle.restricted_manager.specs.Keeping.{IsAnswer, KeepsAnswer, answer_in, answer_of};
 
-use crate::document::{asked_place, is_same_place};
+use crate::document::is_own_place;
 use crate::manager::Manager;
 use jar_types::{NoMemory, Reply};
 use renderer_cache::Kept;
@@ -28,7 +28,7 @@ impl Manager {
             (λ _. KeepsAnswer (answer_of self.old (option_copied url.entry) reply.now) self.old self.new)
             (λ _. self.new ≡ self.old) }
     {
-        if !is_same_place(asked_place(&self.document, url), &self.document) {
+        if !is_own_place(&self.document, url) {
             return Ok(());
         }
         let Some(cell) = self.cell else {

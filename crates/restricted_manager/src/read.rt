@@ -1,10 +1,11 @@
 //! Reads.
 
 ghost use Rattle.std.specs.Prelude.{◌≡◌, MatchResult, option_copied};
+ghost use Rattle.restricted_manager.specs.Documents.{asked_place};
 ghost use Rattle.restricted_manager.specs.declared.read.ReadTurnRefusal.TheVariants as refusal;
 ghost use Rattle.restricted_manager.specs.Reads.{FindsKept, ReadsAt, ReadsCookies};
 
-use crate::document::{asked_place, is_same_origin, is_same_place};
+use crate::document::{asked_place, has_own_origin, is_own_place};
 use crate::manager::Manager;
 use crate::request::request_of;
 use jar_types::{AskCause, Moment, NoMemory, Op, Text};
@@ -60,34 +61,38 @@ impl Manager {
         ensures reads { ReadsCookies self.now (option_copied url.entry) now pass.old pass.new result }
         ensures table { pass.new.table ≡ pass.old.table }
     {
-        let place = asked_place(&self.document, url);
-        if !is_same_origin(place, &self.document) {
+        if !has_own_origin(&self.document, url) {
             return Err(ReadTurnRefusal::OriginMismatch);
         }
-        match self.find_kept(cells, pass, place, now) {
+        match self.find_kept(cells, pass, url, now) {
             Ok(text) => Ok(ReadTurn::Reused(text.copy(alloc)?)),
-            Err(cause) => Ok(ReadTurn::Ask {
-                op: Op::Get(request_of(alloc, place, &self.site)?),
-                cause,
-            }),
+            Err(cause) => {
+                let place = asked_place(&self.document, url);
+                Ok(ReadTurn::Ask {
+                    op: Op::Get(request_of(alloc, place, &self.site)?),
+                    cause,
+                })
+            }
         }
     }
 
-    /// The text that is kept for a place and may be used again, or the first cause to ask.
+    /// The text that is kept for the place of a step and may be used again, or the first cause to ask.
     fn find_kept(
         &self,
         cells: &Cells,
         pass: &mut Pass,
-        place: &Place,
+        url: Option<&Place>,
         now: Moment,
     ) -> Result<&Text, AskCause>
         requires same { pass.old.table ≡ cells.now }
         ensures finds { MatchResult result
-            (λ text. FindsKept self.now place.now now pass.old pass.new (Ok text.now))
-            (λ cause. FindsKept self.now place.now now pass.old pass.new (Err cause)) }
+            (λ text. FindsKept self.now (asked_place self.now.document (option_copied url.entry)) now
+            pass.old pass.new (Ok text.now))
+            (λ cause. FindsKept self.now (asked_place self.now.document (option_copied url.entry)) now
+            pass.old pass.new (Err cause)) }
         ensures table { pass.new.table ≡ pass.old.table }
     {
-        if !is_same_place(place, &self.document) {
+        if !is_own_place(&self.document, url) {
             return Err(AskCause::Other);
         }
         if self.cell.is_none() {

@@ -4,7 +4,7 @@ ghost use Rattle.std.specs.Prelude.{◌≡◌, option_copied};
 ghost use Rattle.restricted_manager.specs.declared.write.WriteRefusal.TheVariants as refusal;
 ghost use Rattle.restricted_manager.specs.Writes as spec;
 
-use crate::document::{asked_place, is_same_origin};
+use crate::document::{asked_place, has_own_origin};
 use crate::manager::Manager;
 use crate::request::context_of;
 use canonical_cookie::{CookieRefusal, make};
@@ -47,10 +47,10 @@ impl Manager {
     ) -> Result<Op, WriteRefusal>
         ensures { spec.WritesCookie suffixes.now self.now (option_copied url.entry) line.now now result }
     {
-        let place = asked_place(&self.document, url);
-        if !is_same_origin(place, &self.document) {
+        if !has_own_origin(&self.document, url) {
             return Err(WriteRefusal::OriginMismatch);
         }
+        let place = asked_place(&self.document, url);
         match read_line(alloc, line) {
             Ok(line) => self.set_of(alloc, suffixes, place, &line, now),
             Err(LineRefusal::NoMemory) => Err(WriteRefusal::NoMemory),

@@ -13,6 +13,6 @@ mod EndingLemmas
 mod SharingLemmas
 mod KnowingLemmas
 mod ServedLemmas
-mod CallerLemmas
+pub mod CallerLemmas
 mod KnowingFacts
 mod StandardFacts

@@ -19,4 +19,4 @@ pub use own_jar::OwnJar;
 pub use sharing::SharedJar;
 
 #[cfg(test)]
-mod shared_tests;
+mod tests;

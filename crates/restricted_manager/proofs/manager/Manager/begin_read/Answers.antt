@@ -5,24 +5,23 @@ use Rattle.restricted_manager.proofs.manager.Manager.begin_read.Goals as goal
 
 pub returns-in_ok-copy-in-Ok-clause-reads : goal.returns-in_ok-copy-in-Ok-clause-reads
 returns-in_ok-copy-in-Ok-clause-reads c =
-    reuses _ _ (option_copied c.args.url) _ c.args.now c.args.pass.now c.find_kept.new.pass _ _ c.self.view_is
-    c.asked_place-place.ensures (sym c.is_same_origin.ensures ∙ c.if-not-is_same_origin.false)
-    c.in-Ok.ensures.finds c.in_ok-copy-in-Ok.ensures
+    reuses _ _ (option_copied c.args.url) c.args.now c.args.pass.now c.find_kept.new.pass _ _ c.self.view_is
+    (sym c.has_own_origin.ensures ∙ c.if-not-has_own_origin.false) c.in-Ok.ensures.finds c.in_ok-copy-in-Ok.ensures
 
 pub returns-in_err-copy-in-Ok-clause-reads : goal.returns-in_err-copy-in-Ok-clause-reads
 returns-in_err-copy-in-Ok-clause-reads c =
-    wants _ _ (option_copied c.args.url) _ c.args.now c.args.pass.now c.find_kept.new.pass (Ok c.in-Ok.text.now) _
-    c.self.view_is c.asked_place-place.ensures (sym c.is_same_origin.ensures ∙ c.if-not-is_same_origin.false)
+    wants _ _ (option_copied c.args.url) c.args.now c.args.pass.now c.find_kept.new.pass (Ok c.in-Ok.text.now) _
+    c.self.view_is (sym c.has_own_origin.ensures ∙ c.if-not-has_own_origin.false)
     c.in-Ok.ensures.finds c.from_residual.ensures.1
 
 pub returns-in_ok-request_of-in-Err-clause-reads : goal.returns-in_ok-request_of-in-Err-clause-reads
 returns-in_ok-request_of-in-Err-clause-reads c =
-    asks _ _ (option_copied c.args.url) _ c.args.now c.args.pass.now c.find_kept.new.pass c.in-Err.cause _
-    c.self.view_is c.asked_place-place.ensures (sym c.is_same_origin.ensures ∙ c.if-not-is_same_origin.false)
-    c.in-Err.ensures.finds (ap Get c.in_ok-request_of-in-Err.ensures)
+    asks _ _ (option_copied c.args.url) c.args.now c.args.pass.now c.find_kept.new.pass c.in-Err.cause _ _
+    c.self.view_is (sym c.has_own_origin.ensures ∙ c.if-not-has_own_origin.false) c.in-Err.ensures.finds
+    c.asked_place-place.ensures (ap Get c.in_ok-request_of-in-Err.ensures)
 
 pub returns-in_err-request_of-in-Err-clause-reads : goal.returns-in_err-request_of-in-Err-clause-reads
 returns-in_err-request_of-in-Err-clause-reads c =
-    wants _ _ (option_copied c.args.url) _ c.args.now c.args.pass.now c.find_kept.new.pass (Err c.in-Err.cause) _
-    c.self.view_is c.asked_place-place.ensures (sym c.is_same_origin.ensures ∙ c.if-not-is_same_origin.false)
+    wants _ _ (option_copied c.args.url) c.args.now c.args.pass.now c.find_kept.new.pass (Err c.in-Err.cause) _
+    c.self.view_is (sym c.has_own_origin.ensures ∙ c.if-not-has_own_origin.false)
     c.in-Err.ensures.finds c.from_residual-in_err-request_of-in-Err.ensures.1

@@ -1,9 +1,9 @@
 use Rattle.store_vault.specs.Loading.{rules_of}
-use Rattle.shared_jar.proofs.shared_tests.eight_threads_make_one_legal_journal.Given as goal
+use Rattle.jar_bench.proofs.main.Given as goal
 
 -- the jar that was just opened
-abbrev pub ghosts-shared_by_all : goal.ghosts-shared_by_all
-ghosts-shared_by_all g a =
+abbrev pub ghosts-run : goal.ghosts-run
+ghosts-run g a =
     let jar = a.opened.jar in
     record {
       table = jar.cells;

@@ -1,7 +1,7 @@
 use Rattle.std.proofs.Common.{refl}
 use Rattle.store_vault.specs.Loading.{rules_of}
 use Rattle.shared_jar.proofs.CallerLemmas.{passes_ready}
-use Rattle.shared_jar.proofs.shared_tests.eight_threads_make_one_legal_journal.Goals as goal
+use Rattle.shared_jar.proofs.tests.threads.eight_threads_make_one_legal_journal.Goals as goal
 
 pub shared_by_all-requires-clause-passes : goal.shared_by_all-requires-clause-passes
 shared_by_all-requires-clause-passes g c κs =

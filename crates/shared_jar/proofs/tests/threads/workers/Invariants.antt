@@ -1,0 +1,6 @@
+use Rattle.std.specs.List.{AllByRecursion}
+use Rattle.shared_jar.specs.Together.{IsCaller}
+use Rattle.shared_jar.proofs.tests.threads.workers.Given as goal
+
+abbrev pub invariant-loop : goal.invariant-loop
+invariant-loop g l = AllByRecursion (IsCaller g.N.JarName.rules g.N.JarName.table) l.passes.items
