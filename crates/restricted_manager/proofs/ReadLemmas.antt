@@ -1,6 +1,7 @@
 -- What a read finds, by what is kept and how its try to be used again ended; and what a read gives, by
 -- what it finds.
-use Rattle.std.proofs.Common.{◌≡◌, ◌<◌, ℕ, List, true, Option, Some, Result, Ok, Err, refl, sym, subst}
+use Rattle.std.proofs.Common.{◌≡◌, ◌<◌, ℕ, List, true, Option, Some, Result, Ok, Err, refl, ap, sym, subst}
+use Rattle.std.specs.Prelude.{IfErr, IfOk}
 use Rattle.std.specs.Result.{IsErrAnd}
 use Rattle.jar_types.specs.declared.ask_cause.AskCause.{AskCause}
 use Rattle.jar_types.specs.declared.ask_cause.AskCause.TheVariants as cause
@@ -48,6 +49,15 @@ module _ (m seen : ManagerStanding) (url : Option Place) (now : ℕ) (old new : 
       subst (Finds (Err (cause.Moved was found))) view
       (same, k, has_kept m k bound is, moved.0, moved.1, moved.2, moved.3)
 
+-- what is asked about an asked place, by a manager that is seen so
+pub asks_for : (m seen : ManagerStanding) (url : Option Place) (why : AskCause) (op : Op) (place : Place) → m ≡ seen
+    → place ≡ asked_place m.document url → op ≡ read_of m place
+    → Ask op why ≡ Ask (read_of seen (asked_place seen.document url)) why
+asks_for m seen url why op place view is same =
+    let P : Place → Type 0 = λ p. op ≡ read_of m p in
+    let Q : ManagerStanding → Type 0 = λ s. op ≡ read_of s (asked_place s.document url) in
+    ap (λ (o : Op). Ask o why) (subst Q view (subst P is same))
+
 -- a read of an asked place, by a manager that is seen so
 module _ (m seen : ManagerStanding) (url : Option Place) (now : ℕ) (old new : PassStanding) where
   origin_seen : m ≡ seen → is_same_origin (asked_place m.document url) m.document ≡ true
@@ -64,15 +74,17 @@ module _ (m seen : ManagerStanding) (url : Option Place) (now : ℕ) (old new : 
       let P : List ℕ → Type 0 = λ t. FindsKept seen (asked_place seen.document url) now old new (Ok t) in
       (origin_seen view origin, subst P (sym same) finds)
 
-  pub asks : (why : AskCause) (op : Op) (place : Place) → m ≡ seen
+  pub asks : (why : AskCause) (result : Result ReadTurn ReadTurnRefusal) → m ≡ seen
       → is_same_origin (asked_place m.document url) m.document ≡ true
       → FindsKept seen (asked_place seen.document url) now old new (Err why)
-      → place ≡ asked_place m.document url → op ≡ read_of m place
-      → ReadsCookies seen url now old new (Ok (Ask op why))
-  asks why op place view origin finds is same =
-      let P : Place → Type 0 = λ p. op ≡ read_of m p in
-      let Q : ManagerStanding → Type 0 = λ s. op ≡ read_of s (asked_place s.document url) in
-      (origin_seen view origin, finds, subst Q view (subst P is same))
+      → IfOk result (λ t. t ≡ Ask (read_of seen (asked_place seen.document url)) why)
+      → IfErr result (λ e. e ≡ NoMemory) → ReadsCookies seen url now old new result
+  asks why (Ok turn) view origin finds asked wanted =
+      let P : ReadTurn → Type 0 = λ t. ReadsCookies seen url now old new (Ok t) in
+      subst P (sym asked) (origin_seen view origin, finds, refl)
+  asks why (Err e) view origin finds asked wanted =
+      let P : ReadTurnRefusal → Type 0 = λ w. ReadsCookies seen url now old new (Err w) in
+      subst P (sym wanted) (origin_seen view origin, Err why, finds)
 
   pub wants : (found : Result (List ℕ) AskCause) (result : Result ReadTurn ReadTurnRefusal) → m ≡ seen
       → is_same_origin (asked_place m.document url) m.document ≡ true

@@ -1,7 +1,9 @@
 //! Reads.
 
-ghost use Rattle.std.specs.Prelude.{◌≡◌, MatchResult, option_copied};
-ghost use Rattle.restricted_manager.specs.Documents.{asked_place};
+ghost use Rattle.std.specs.Prelude.{◌≡◌, IfErr, IfOk, MatchResult, option_copied};
+ghost use Rattle.restricted_manager.specs.Documents as spec;
+ghost use Rattle.restricted_manager.specs.Requests.{read_of};
+ghost use Rattle.restricted_manager.specs.declared.read.ReadTurn.TheVariants as turn;
 ghost use Rattle.restricted_manager.specs.declared.read.ReadTurnRefusal.TheVariants as refusal;
 ghost use Rattle.restricted_manager.specs.Reads.{FindsKept, ReadsAt, ReadsCookies};
 
@@ -66,14 +68,29 @@ impl Manager {
         }
         match self.find_kept(cells, pass, url, now) {
             Ok(text) => Ok(ReadTurn::Reused(text.copy(alloc)?)),
-            Err(cause) => {
-                let place = asked_place(&self.document, url);
-                Ok(ReadTurn::Ask {
-                    op: Op::Get(request_of(alloc, place, &self.site)?),
-                    cause,
-                })
-            }
+            Err(cause) => self.ask(alloc, url, cause),
         }
+    }
+
+    /// What to ask the jar about the place of a step, for this cause. Only want of memory refuses.
+    /// It stands apart so that a read that reuses its text doesn't make room for it.
+    #[cold]
+    #[inline(never)]
+    fn ask(
+        &self,
+        alloc: Global,
+        url: Option<&Place>,
+        cause: AskCause,
+    ) -> Result<ReadTurn, ReadTurnRefusal>
+        ensures asks { IfOk result (λ asked. asked
+            ≡ turn.Ask (read_of self.now (spec.asked_place self.now.document (option_copied url.entry))) cause) }
+        ensures wants { IfErr result (λ e. e ≡ refusal.NoMemory) }
+    {
+        let place = asked_place(&self.document, url);
+        Ok(ReadTurn::Ask {
+            op: Op::Get(request_of(alloc, place, &self.site)?),
+            cause,
+        })
     }
 
     /// The text that is kept for the place of a step and may be used again, or the first cause to ask.
@@ -86,9 +103,9 @@ impl Manager {
     ) -> Result<&Text, AskCause>
         requires same { pass.old.table ≡ cells.now }
         ensures finds { MatchResult result
-            (λ text. FindsKept self.now (asked_place self.now.document (option_copied url.entry)) now
+            (λ text. FindsKept self.now (spec.asked_place self.now.document (option_copied url.entry)) now
             pass.old pass.new (Ok text.now))
-            (λ cause. FindsKept self.now (asked_place self.now.document (option_copied url.entry)) now
+            (λ cause. FindsKept self.now (spec.asked_place self.now.document (option_copied url.entry)) now
             pass.old pass.new (Err cause)) }
         ensures table { pass.new.table ≡ pass.old.table }
     {

@@ -1,5 +1,4 @@
-use Rattle.std.proofs.Common.{Ok, Err, option_copied, sym, ap, ◌∙◌}
-use Rattle.jar_types.specs.declared.op.Op.TheVariants.{Get}
+use Rattle.std.proofs.Common.{Ok, option_copied, sym, ◌∙◌}
 use Rattle.restricted_manager.proofs.ReadLemmas.{reuses, asks, wants}
 use Rattle.restricted_manager.proofs.manager.Manager.begin_read.Goals as goal
 
@@ -14,14 +13,8 @@ returns-in_err-copy-in-Ok-clause-reads c =
     c.self.view_is (sym c.has_own_origin.ensures ∙ c.if-not-has_own_origin.false)
     c.in-Ok.ensures.finds c.from_residual.ensures.1
 
-pub returns-in_ok-request_of-in-Err-clause-reads : goal.returns-in_ok-request_of-in-Err-clause-reads
-returns-in_ok-request_of-in-Err-clause-reads c =
-    asks _ _ (option_copied c.args.url) c.args.now c.args.pass.now c.find_kept.new.pass c.in-Err.cause _ _
+pub returns-in-Err-clause-reads : goal.returns-in-Err-clause-reads
+returns-in-Err-clause-reads c =
+    asks _ _ (option_copied c.args.url) c.args.now c.args.pass.now c.find_kept.new.pass c.in-Err.cause c.ask.result
     c.self.view_is (sym c.has_own_origin.ensures ∙ c.if-not-has_own_origin.false) c.in-Err.ensures.finds
-    c.asked_place-place.ensures (ap Get c.in_ok-request_of-in-Err.ensures)
-
-pub returns-in_err-request_of-in-Err-clause-reads : goal.returns-in_err-request_of-in-Err-clause-reads
-returns-in_err-request_of-in-Err-clause-reads c =
-    wants _ _ (option_copied c.args.url) c.args.now c.args.pass.now c.find_kept.new.pass (Err c.in-Err.cause) _
-    c.self.view_is (sym c.has_own_origin.ensures ∙ c.if-not-has_own_origin.false)
-    c.in-Err.ensures.finds c.from_residual-in_err-request_of-in-Err.ensures.1
+    c.ask.ensures.asks c.ask.ensures.wants
